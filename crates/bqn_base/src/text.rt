@@ -1,0 +1,88 @@
+ghost use Rattle.std.specs.Prelude.{◌≡◌, IfOk, IsTrue};
+ghost use Rattle.std.specs.List.{list_all};
+ghost use Rattle.bqn_base.specs.Names.{is_name_character};
+
+use std::alloc::Global;
+use std::marker::Model;
+
+/// Want of memory.
+#[derive(Clone, Copy, Debug, PartialEq, Eq)]
+pub struct Memory;
+
+/// A list of characters.
+#[derive(Debug, Drop)]
+pub struct Text {
+    chars: Vec<char>,
+}
+
+impl Model for Text {
+    ghost use Rattle.std.specs.Prelude.{List, ℕ};
+    ghost use Rattle.std.specs.Coded.{coded_list, coded_ℕ};
+
+    ghost Value = { List ℕ };
+
+    ghost coded = { coded_list coded_ℕ };
+
+    ghost view = { λ text. text.chars.items };
+}
+
+impl Text {
+    /// The text of these characters.
+    pub fn new(alloc: Global, chars: &[char]) -> Result<Text, Memory>
+        ensures { IfOk result (λ text. text ≡ chars.now) }
+    {
+        match Vec::from_slice(alloc, chars) {
+            Ok(chars) => Ok(Text { chars }),
+            Err(_) => Err(Memory),
+        }
+    }
+
+    /// The characters, in order.
+    pub fn chars(&self) -> &[char]
+        ensures { result.now ≡ self.now }
+    {
+        self.chars.as_slice()
+    }
+}
+
+/// The spelling of a name: a list of lower-case letters and digits.
+#[derive(Debug, Drop)]
+pub struct Name {
+    chars: Vec<char>,
+}
+
+impl Model for Name {
+    ghost use Rattle.std.specs.Prelude.{List, ℕ, IsTrue};
+    ghost use Rattle.std.specs.Coded.{coded_list, coded_ℕ};
+    ghost use Rattle.std.specs.List.{list_all};
+    ghost use Rattle.bqn_base.specs.Names.{is_name_character};
+
+    ghost Value = { List ℕ };
+
+    ghost coded = { coded_list coded_ℕ };
+
+    ghost view = { λ name. name.chars.items };
+
+    ghost invariant = { λ name. IsTrue (list_all is_name_character name.chars.items) };
+}
+
+impl Name {
+    /// The name of these characters.
+    pub fn new(alloc: Global, chars: &[char]) -> Result<Name, Memory>
+        requires { IsTrue (list_all is_name_character chars.now) }
+        ensures { IfOk result (λ name. name ≡ chars.now) }
+    {
+        match Vec::from_slice(alloc, chars) {
+            Ok(chars) => Ok(Name { chars }),
+            Err(_) => Err(Memory),
+        }
+    }
+
+    /// The characters, in order.
+    pub fn chars(&self) -> &[char]
+        ensures value { result.now ≡ self.now }
+        ensures alphabet { IsTrue (list_all is_name_character self.now) }
+    {
+        self.chars.as_slice()
+    }
+}
