@@ -1,0 +1,130 @@
+-- Cuts, trees and evaluations, computed.
+use Rattle.std.proofs.Common.{◌≡◌, ℕ, ℤ, pos, negsuc, List, [], ◌∷◌, ◌++◌, Option, Some, None, Result, Ok, Err, refl}
+use Rattle.std.specs.Str.{chars, is_utf8}
+use Rattle.std.specs.Option.{option_map}
+use Rattle.std.specs.Prelude.{encode_utf8_all}
+use Rattle.std.specs.Fmt.{digits}
+use lib.Chars.{codes}
+use lib.Utf8.{encode}
+use Rattle.bqn_base.specs.declared.fault.Fault.{Fault}
+use Rattle.bqn_base.specs.declared.fault.Fault.TheVariants.{Overflow, Domain}
+use Rattle.bqn_base.specs.declared.refusal.Refusal.TheVariants.{NotUtf8}
+use Rattle.bqn_syntax.specs.declared.tree.Tree.{Tree}
+use Rattle.bqn_syntax.specs.Text.{text_of}
+use Rattle.bqn_syntax.specs.Cut.{pieces_of}
+use Rattle.bqn_syntax.specs.Form.{number_of, tree_of}
+use Rattle.bqn_syntax.specs.Evaluation.{Res, Gives, Faults, Spends, State, evaluated}
+
+-- the pieces of an ordinary line
+cut_of_line : pieces_of (codes "•Show 2+3") ≡ Some (codes "•Show" ∷ codes " " ∷ codes "2" ∷ codes "+" ∷ codes "3" ∷ [])
+cut_of_line = refl
+
+-- a dot joins two digits, and no letter
+cut_of_dots : pieces_of (codes "1.5.a") ≡ Some (codes "1.5" ∷ codes "." ∷ codes "a" ∷ [])
+cut_of_dots = refl
+
+-- a macron belongs to the word that it stands in
+cut_of_macrons : pieces_of (codes "2¯3 ¯") ≡ Some (codes "2¯3" ∷ codes " " ∷ codes "¯" ∷ [])
+cut_of_macrons = refl
+
+-- a comment ends before the newline, and a quote stands in quotes
+cut_of_quotes : pieces_of (codes "'''\"a\"\"b\"#c\n") ≡ Some (codes "'''" ∷ codes "\"a\"\"b\"" ∷ codes "#c" ∷ codes "\n" ∷ [])
+cut_of_quotes = refl
+
+-- doubled quotes that run off the end leave a text without an end
+no_cut_of_open_text : pieces_of (codes "\"ab\"\"") ≡ None
+no_cut_of_open_text = refl
+
+no_cut_of_dollar : pieces_of (codes "1$") ≡ None
+no_cut_of_dollar = refl
+
+-- a carriage return goes only directly before a line feed
+text_with_returns : text_of (49 ∷ 13 ∷ 13 ∷ 10 ∷ 13 ∷ []) ≡ Ok (49 ∷ 13 ∷ 10 ∷ 13 ∷ [])
+unfolding chars is_utf8 encode
+text_with_returns = refl
+
+least_number : number_of (codes "¯9223372036854775808") ≡ Some (negsuc 9223372036854775807)
+least_number = refl
+
+past_least_number : number_of (codes "¯9223372036854775809") ≡ None
+past_least_number = refl
+
+past_greatest_number : number_of (codes "9223372036854775808") ≡ None
+past_greatest_number = refl
+
+negative_zero : number_of (codes "¯000") ≡ Some (pos 0)
+negative_zero = refl
+
+no_number_without_digits : number_of (codes "¯") ≡ None
+no_number_without_digits = refl
+
+-- the bytes of a source, its meaning with so many steps, and the written text
+abbrev source : List ℕ → List ℕ
+source text = encode_utf8_all text
+
+abbrev seen : List ℕ → ℕ → Option (Res (Unit {0}))
+seen text steps = option_map (λ tree. evaluated tree steps) (tree_of (source text))
+
+abbrev state : List ℕ → ℕ → State
+state text left = record { written = encode_utf8_all text; left = left }
+
+nothing_written : seen (codes "") 1 ≡ Some (Gives tt (state [] 0))
+unfolding chars is_utf8 encode
+nothing_written = refl
+
+sum_written : seen (codes "•Show 2+3") 1 ≡ Some (Gives tt (state (codes "5\n") 0))
+unfolding chars is_utf8 encode digits
+sum_written = refl
+
+-- functions take what stands right of them
+right_to_left : seen (codes "•Show 10-2-3") 7 ≡ Some (Gives tt (state (codes "11\n") 6))
+unfolding chars is_utf8 encode digits
+right_to_left = refl
+
+overflow_after_text : seen (codes "•Show ¯5 ⋄ 9223372036854775807+1 ⋄ •Show 1") 1 ≡ Some (Faults Overflow (state (codes "¯5\n") 0))
+unfolding chars is_utf8 encode digits
+overflow_after_text = refl
+
+show_with_left : seen (codes "1 •Show •Show -×-7,") 1 ≡ Some (Faults Domain (state (codes "1\n") 0))
+unfolding chars is_utf8 encode digits
+show_with_left = refl
+
+no_step_left : seen (codes "•Show 1") 0 ≡ Some (Spends (state [] 0))
+unfolding chars is_utf8 encode
+no_step_left = refl
+
+-- what is not of the form
+not_yet_bracket : seen (codes "•Show (") 1 ≡ None
+unfolding chars is_utf8 encode
+not_yet_bracket = refl
+
+not_yet_divide : seen (codes "•Show 7÷2") 1 ≡ None
+unfolding chars is_utf8 encode
+not_yet_divide = refl
+
+not_yet_strand : seen (codes "1 2") 1 ≡ None
+unfolding chars is_utf8 encode
+not_yet_strand = refl
+
+not_yet_function : seen (codes "1 +") 1 ≡ None
+unfolding chars is_utf8 encode
+not_yet_function = refl
+
+not_yet_comment : seen (codes "1 # c") 1 ≡ None
+unfolding chars is_utf8 encode
+not_yet_comment = refl
+
+not_yet_other_case : seen (codes "•show 1") 1 ≡ None
+unfolding chars is_utf8 encode
+not_yet_other_case = refl
+
+not_yet_longer_name : seen (codes "•Show2") 1 ≡ None
+unfolding chars is_utf8 encode
+not_yet_longer_name = refl
+
+not_yet_return : tree_of (49 ∷ 13 ∷ 10 ∷ []) ≡ None
+not_yet_return = refl
+
+not_yet_bytes : tree_of (49 ∷ 255 ∷ []) ≡ None
+unfolding chars is_utf8 encode
+not_yet_bytes = refl

@@ -1,0 +1,5 @@
+pub mod Text
+pub mod Table
+pub mod Cut
+pub mod Form
+pub mod Evaluation

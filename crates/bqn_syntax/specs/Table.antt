@@ -1,0 +1,100 @@
+-- The table of tokens, as the states that a piece goes through character by character: BQN's page on tokens.
+use Rattle.std.specs.Prelude.{ℕ, nat_le, ◌==◌, Bool, true, false, ◌&&◌, ◌||◌, if◌then◌else◌, List, [], ◌∷◌, ◌++◌, Option, Some, None}
+use Rattle.std.specs.List.{list_any}
+use lib.Chars.{codes}
+use Rattle.bqn_syntax.specs.declared.progress.Progress.{Progress}
+use Rattle.bqn_syntax.specs.declared.progress.Progress.TheVariants.{Start, Done, Comment, Word, Digit, Dot, Bullet, Quote, Quoted, Inside, Closed}
+
+-- 44 primitive functions, in the order of their codes
+abbrev pub primitive_functions : List ℕ
+primitive_functions = codes "+-×÷⋆√⌊⌈|¬∧∨<>≠=≤≥≡≢⊣⊢⥊∾≍⋈↑↓↕«»⌽⍉/⍋⍒⊏⊑⊐⊒∊⍷⊔!"
+
+-- 9 primitive 1-modifiers and 11 primitive 2-modifiers, in the order of their codes
+abbrev pub primitive_modifiers : List ℕ
+primitive_modifiers = codes "˙˜˘¨⌜⁼´˝`" ++ codes "∘○⊸⟜⌾⊘◶⎉⚇⍟⎊"
+
+-- the special names of one character; `𝕣` belongs to the words
+abbrev pub special_names : List ℕ
+special_names = codes "𝕨𝕩𝕤𝕗𝕘𝕎𝕏𝕊𝔽𝔾"
+
+abbrev pub punctuation : List ℕ
+punctuation = 10 ∷ codes "←⇐↩(){}⟨⟩[]‿·⋄,.;:?"
+
+-- the space and the tab
+abbrev pub blanks : List ℕ
+blanks = 32 ∷ 9 ∷ []
+
+-- what is a piece by itself; `@` is the character with code 0
+abbrev pub singles : List ℕ
+singles = blanks ++ punctuation ++ codes "@" ++ special_names ++ primitive_functions ++ primitive_modifiers
+
+abbrev pub is_one_of : List ℕ → ℕ → Bool
+is_one_of cs c = list_any (λ d. d == c) cs
+
+abbrev pub is_digit : ℕ → Bool
+is_digit c = nat_le 48 c && nat_le c 57
+
+abbrev pub is_letter : ℕ → Bool
+is_letter c = (nat_le 97 c && nat_le c 122) || (nat_le 65 c && nat_le c 90)
+
+-- a letter, the underscore or `𝕣`
+abbrev pub is_name_start : ℕ → Bool
+is_name_start c = is_letter c || (c == 95) || (c == 120163)
+
+-- those, the digits, `¯`, `∞` and `π`; a dot belongs to a word only between two digits
+abbrev pub is_word : ℕ → Bool
+is_word c = is_name_start c || is_digit c || (c == 175) || (c == 8734) || (c == 960)
+
+abbrev pub within_word : ℕ → Option Progress
+within_word c = if is_digit c then Some Digit else if is_word c then Some Word else None
+
+abbrev pub first_state : ℕ → Option Progress
+first_state c =
+    if is_digit c then Some Digit
+    else if is_word c then Some Word
+    else if c == 35 then Some Comment
+    else if c == 8226 then Some Bullet
+    else if c == 39 then Some Quote
+    else if c == 34 then Some Inside
+    else if is_one_of singles c then Some Done
+    else None
+
+-- the state after one more character; none where no piece goes on so
+abbrev pub next : Progress → ℕ → Option Progress
+next Start c = first_state c
+next Done c = None
+-- a comment runs up to the next newline
+next Comment c = if c == 10 then None else Some Comment
+next Word c = within_word c
+next Digit c = if c == 46 then Some Dot else within_word c
+next Dot c = if is_digit c then Some Digit else None
+-- a system word is `•` and a name word
+next Bullet c = if is_name_start c then Some Word else None
+-- any one code point stands between single quotes
+next Quote c = Some Quoted
+next Quoted c = if c == 39 then Some Done else None
+-- two adjacent double quotes stand for one
+next Inside c = if c == 34 then Some Closed else Some Inside
+next Closed c = if c == 34 then Some Inside else None
+
+-- whether a piece may end here
+abbrev pub is_final : Progress → Bool
+is_final Start = false
+is_final Done = true
+is_final Comment = true
+is_final Word = true
+is_final Digit = true
+is_final Dot = false
+is_final Bullet = false
+is_final Quote = false
+is_final Quoted = false
+is_final Inside = false
+is_final Closed = true
+
+abbrev pub is_piece_from : Progress → List ℕ → Bool
+is_piece_from state [] = is_final state
+is_piece_from state (c ∷ cs) = elim (next state c) [ None ↦ false | Some after ↦ is_piece_from after cs ]
+
+-- a blank, a comment or a token of the table
+abbrev pub is_piece : List ℕ → Bool
+is_piece = is_piece_from Start

@@ -1,0 +1,10 @@
+//! The types of a source, its tokens and its trees. What they mean stands in `specs/`.
+#![tactic(auto)]
+
+mod progress;
+mod token;
+mod tree;
+
+pub use progress::Progress;
+pub use token::Token;
+pub use tree::{Expr, Function, Step, Tree};
