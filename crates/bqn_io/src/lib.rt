@@ -1,0 +1,17 @@
+//! Devices: where bytes come from, where they go, and who keeps files.
+#![tactic(auto)]
+
+mod calls;
+mod failed;
+mod files;
+mod memory_sink;
+mod memory_source;
+mod sink;
+mod source;
+
+pub use failed::Failed;
+pub use files::{FetchError, Fetched, Files};
+pub use memory_sink::MemorySink;
+pub use memory_source::MemorySource;
+pub use sink::Sink;
+pub use source::Source;
