@@ -37,25 +37,33 @@ m >>= go = λ s. then_do (m s) go
 abbrev pub pure : {A : Type 0} → A → M A
 pure v = λ s. Gives v s
 
--- the answer of a row
-abbrev pub row : Result ℤ Fault → M ℤ
-row (Ok z) = pure z
-row (Err f) = λ s. Faults f s
+-- what a call answers, without and with a left argument; a system function has none
+abbrev pub answer_of : Function → Option ℤ → ℤ → Result ℤ Fault
+answer_of Plus None x = Ok x
+answer_of Plus (Some w) x = sum_of w x
+answer_of Minus None x = negative_of x
+answer_of Minus (Some w) x = difference_of w x
+answer_of Times None x = Ok (sign_of x)
+answer_of Times (Some w) x = product_of w x
+answer_of Show None x = Ok x
+answer_of Show (Some w) x = Err Domain
 
--- `•Show x` writes the text of x and a newline, and gives x
-abbrev pub show : ℤ → M ℤ
-show x = λ s. Gives x (record s { written = s.written ++ encode_utf8_all (line (number_text x)) })
+-- what a call writes: `•Show x` the text of x and a newline
+abbrev pub output_of : Function → Option ℤ → ℤ → List ℕ
+output_of Show None x = encode_utf8_all (line (number_text x))
+output_of _ left x = []
 
--- a call without and with a left argument; a system function has none
+-- a state after further bytes
+abbrev pub wrote : State → List ℕ → State
+wrote s bytes = record s { written = s.written ++ bytes }
+
+abbrev pub answered : Result ℤ Fault → M ℤ
+answered (Ok y) = pure y
+answered (Err f) = λ s. Faults f s
+
+-- a call
 abbrev pub call : Function → Option ℤ → ℤ → M ℤ
-call Plus None x = pure x
-call Plus (Some w) x = row (sum_of w x)
-call Minus None x = row (negative_of x)
-call Minus (Some w) x = row (difference_of w x)
-call Times None x = pure (sign_of x)
-call Times (Some w) x = row (product_of w x)
-call Show None x = show x
-call Show (Some w) x = row (Err Domain)
+call function left x = λ s. answered (answer_of function left x) (wrote s (output_of function left x))
 
 -- applications, the rightmost first, to what was read before them
 abbrev pub eval_steps : List Step → ℤ → M ℤ
