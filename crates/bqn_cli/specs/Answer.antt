@@ -1,0 +1,57 @@
+-- What a command line is answered: the bytes to write, and the status. This project's own.
+use Rattle.std.specs.Prelude.{◌≡◌, ℕ, List, [], ◌++◌, Option, Some, None, encode_utf8_all}
+use Rattle.bqn_base.specs.declared.refusal.Refusal.{Refusal}
+use Rattle.bqn_base.specs.declared.refusal.Refusal.TheVariants.{NotYet}
+use Rattle.bqn_base.specs.declared.status.Status.{Status}
+use Rattle.bqn_base.specs.declared.status.Status.TheVariants as status
+use Rattle.bqn_base.specs.Printed.{error_line, refusal_line, usage_line}
+use Rattle.bqn_io.specs.Devices.{Told, Untold, Missing, Kept}
+use Rattle.bqn_syntax.specs.declared.tree.Tree.{Tree}
+use Rattle.bqn_syntax.specs.Form.{tree_of}
+use Rattle.bqn_syntax.specs.Evaluation.{Res, Gives, Faults, Spends, evaluated}
+use Rattle.bqn_cli.specs.Command.{Command, Run, NoCommand}
+
+pub record Answer : Type 0 where
+  pub out : List ℕ
+  pub status : Status
+
+-- the steps that a run has where none are asked for
+abbrev pub default_steps : ℕ
+default_steps = 1000000
+
+-- the line of a refusal
+abbrev pub refused : Refusal → Answer
+refused refusal = record { out = encode_utf8_all (refusal_line refusal); status = status.Refused }
+
+-- what was written, and behind it the line of an uncaught fault
+abbrev pub ended : Res (Unit {0}) → Answer
+ended (Gives u s) = record { out = s.written; status = status.Done }
+ended (Faults fault s) = record { out = s.written ++ encode_utf8_all (error_line fault); status = status.Fault }
+ended (Spends s) = record { out = s.written; status = status.Spent }
+
+abbrev pub tree_answer : Option Tree → Answer
+tree_answer None = refused NotYet
+tree_answer (Some tree) = ended (evaluated tree default_steps)
+
+-- the answer to a source
+abbrev pub source_answer : List ℕ → Answer
+source_answer source = tree_answer (tree_of source)
+
+abbrev pub usage_answer : Answer
+usage_answer = record { out = encode_utf8_all usage_line; status = status.Usage }
+
+-- the answer to some source, where nothing is told of the file
+pub record AnswersSome (answer : Answer) : Type 0 where
+  pub source : List ℕ
+  pub is : answer ≡ source_answer source
+
+-- the answer to the source in a file; a file that is not kept can't be read
+abbrev pub FileAnswers : Told → Answer → Type 0
+FileAnswers Untold answer = AnswersSome answer
+FileAnswers Missing answer = answer ≡ record { out = []; status = status.ReadFault }
+FileAnswers (Kept source) answer = answer ≡ source_answer source
+
+-- the answer to a command, by what is told of the files
+abbrev pub Answers : Command → (List ℕ → Told) → Answer → Type 0
+Answers (Run file) told answer = FileAnswers (told file) answer
+Answers NoCommand told answer = answer ≡ usage_answer

@@ -1,0 +1,33 @@
+-- One instruction: the stack from its top, and what a call leaves in the sink.
+use Rattle.std.proofs.Common.{◌≡◌, ◌≢◌, ◌≤◌, ◌-◌, ◌+◌, ℕ, ℤ, List, [], ◌∷◌, ◌++◌, reverse, length, Option, Some, None, Result, Ok, Err, refl, sym, ap, ◌∙◌, subst, arith}
+use Rattle.std.proofs.lemmas.List.{append-nil, reverse-append}
+use Rattle.bqn_io.proofs.Writing.{adds-nothing}
+use Rattle.bqn_io.specs.Writing.{Adds, AddsPart}
+use Rattle.bqn_base.specs.declared.fault.Fault.{Fault}
+use Rattle.bqn_machine.specs.declared.end.End.{End}
+use Rattle.bqn_machine.specs.declared.end.End.TheVariants as end
+use Rattle.bqn_machine.specs.Running.{Calls, Acts, pushed, top_act}
+use Rattle.bqn_syntax.specs.declared.tree.Function.{Function}
+use Rattle.bqn_syntax.specs.Evaluation.{answer_of, output_of}
+
+pub reverse-push : (xs : List ℤ) (x : ℤ) → reverse (xs ++ x ∷ []) ≡ x ∷ reverse xs
+reverse-push xs x = reverse-append xs (x ∷ [])
+
+module _ {K : Type 0} (written : K → Option (List ℕ)) (room faults : K → ℕ) where
+  pub adds-all : (old new : K) (bytes : List ℕ) → Adds written room faults old new bytes → AddsPart written room faults old new bytes
+  adds-all old new bytes a = record { front = bytes; rest = []; whole = sym (append-nil bytes); adds = a }
+
+  -- a call that ends the run ends the instruction
+  pub acts-calls : (answer : Result ℤ Fault) (output : List ℕ) (stack st : List ℤ) (old new : K) (e : End) → Calls written room faults answer output old new (Err e) → Acts written room faults (Some (record { answer = pushed stack answer; output = output })) st old new (Err e)
+  acts-calls answer output stack st old new (end.Faulted f) h = (ap (pushed stack) h.0, h.1)
+  acts-calls answer output stack st old new end.Memory h = h
+  acts-calls answer output stack st old new end.WriteFault h = h
+  acts-calls answer output stack st old new end.Done h = h
+  acts-calls answer output stack st old new end.Spent h = h
+
+  pub acts-call_top : (f : Function) (left : Option ℤ) (items rest : List ℤ) (x z : ℤ) (st : List ℤ) (old new : K) (e : End) → items ≡ rest ++ x ∷ [] → z ≡ x → Calls written room faults (answer_of f left z) (output_of f left z) old new (Err e) → Acts written room faults (top_act f left (reverse items)) st old new (Err e)
+  acts-call_top f left items rest x z st old new e at same h =
+      rw (ap reverse at ∙ reverse-push rest x) (acts-calls (answer_of f left x) (output_of f left x) (reverse rest) st old new e
+        (subst (λ (y : ℤ). Calls written room faults (answer_of f left y) (output_of f left y) old new (Err e)) same h))
+
+pub ruleset step_laws = (reverse-push, adds-nothing, adds-all)

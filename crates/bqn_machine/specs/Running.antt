@@ -1,0 +1,74 @@
+-- What a run of code has done to a sink, and how it ends.
+use Rattle.std.specs.Prelude.{◌≡◌, ℕ, ℤ, List, [], ◌∷◌, Option, Some, None, Result, Ok, Err}
+use Rattle.bqn_base.specs.declared.fault.Fault.{Fault}
+use Rattle.bqn_io.specs.Writing.{Adds, AddsPart, Breaks}
+use Rattle.bqn_syntax.specs.declared.tree.Function.{Function}
+use Rattle.bqn_syntax.specs.Evaluation.{State, Res, Gives, Faults, Spends, answer_of, output_of}
+use Rattle.bqn_machine.specs.declared.code.Instr.{Instr}
+use Rattle.bqn_machine.specs.declared.code.Instr.TheVariants.{Const, Call1, Call2, Pop}
+use Rattle.bqn_machine.specs.declared.end.End.{End}
+use Rattle.bqn_machine.specs.declared.end.End.TheVariants as end
+use Rattle.bqn_machine.specs.Execution.{Run}
+
+-- what one instruction makes of the stack, and what it writes
+pub record Act : Type 0 where
+  pub answer : Result (List ℤ) Fault
+  pub output : List ℕ
+
+abbrev pub pushed : List ℤ → Result ℤ Fault → Result (List ℤ) Fault
+pushed stack (Ok y) = Ok (y ∷ stack)
+pushed stack (Err f) = Err f
+
+-- a call on the top; none where it is missing
+abbrev pub top_act : Function → Option ℤ → List ℤ → Option Act
+top_act f left [] = None
+top_act f left (x ∷ stack) = Some (record { answer = pushed stack (answer_of f left x); output = output_of f left x })
+
+-- none where an operand is missing
+abbrev pub act : Instr → List ℤ → Option Act
+act (Const x) stack = Some (record { answer = Ok (x ∷ stack); output = [] })
+act (Call1 f) stack = top_act f None stack
+act (Call2 f) [] = None
+act (Call2 f) (w ∷ stack) = top_act f (Some w) stack
+act Pop [] = None
+act Pop (x ∷ stack) = Some (record { answer = Ok stack; output = [] })
+
+-- the bytes that were written when a run ended
+abbrev pub written_by : Res (Unit {0}) → List ℕ
+written_by (Gives u s) = s.written
+written_by (Faults f s) = s.written
+written_by (Spends s) = s.written
+
+module _ {K : Type 0} (written : K → Option (List ℕ)) (room faults : K → ℕ) where
+  -- a call answers and writes so; want of memory and a failed put leave a front of what it writes
+  abbrev pub Calls : Result ℤ Fault → List ℕ → K → K → Result ℤ End → Type 0
+  Calls answer output old new (Ok y) = (answer ≡ Ok y) × Adds written room faults old new output
+  Calls answer output old new (Err (end.Faulted f)) = (answer ≡ Err f) × Adds written room faults old new output
+  Calls answer output old new (Err end.Memory) = AddsPart written room faults old new output
+  Calls answer output old new (Err end.WriteFault) = Breaks written room faults old new output
+  Calls answer output old new (Err end.Done) = ⊥
+  Calls answer output old new (Err end.Spent) = ⊥
+
+  -- an instruction does so to the stack and the sink
+  abbrev pub Acts : Option Act → List ℤ → K → K → Result (Unit {0}) End → Type 0
+  Acts None stack old new result = ⊥
+  Acts (Some a) stack old new (Ok u) = (a.answer ≡ Ok stack) × Adds written room faults old new a.output
+  Acts (Some a) stack old new (Err (end.Faulted f)) = (a.answer ≡ Err f) × Adds written room faults old new a.output
+  Acts (Some a) stack old new (Err end.Memory) = AddsPart written room faults old new a.output
+  Acts (Some a) stack old new (Err end.WriteFault) = Breaks written room faults old new a.output
+  Acts (Some a) stack old new (Err end.Done) = ⊥
+  Acts (Some a) stack old new (Err end.Spent) = ⊥
+
+  -- a run adds its bytes and ends so; want of memory and a failed put leave a front of its bytes
+  abbrev pub Ends : Res (Unit {0}) → K → K → End → Type 0
+  Ends (Gives u s) old new end.Done = Adds written room faults old new s.written
+  Ends (Faults f s) old new (end.Faulted g) = (g ≡ f) × Adds written room faults old new s.written
+  Ends (Spends s) old new end.Spent = Adds written room faults old new s.written
+  Ends run old new end.Memory = AddsPart written room faults old new (written_by run)
+  Ends run old new end.WriteFault = Breaks written room faults old new (written_by run)
+  Ends _ old new _ = ⊥
+
+  -- the same of code that never misses an operand
+  abbrev pub EndsAs : Run → K → K → End → Type 0
+  EndsAs None old new result = ⊥
+  EndsAs (Some run) old new result = Ends run old new result

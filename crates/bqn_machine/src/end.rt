@@ -1,0 +1,11 @@
+use bqn_base::Fault;
+
+/// How a run ends. Want of memory and a failed put leave a prefix of what is to be written.
+#[derive(Debug, Drop)]
+pub enum End {
+    Done,
+    Faulted(Fault),
+    Spent,
+    Memory,
+    WriteFault,
+}
