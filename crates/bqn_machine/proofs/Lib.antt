@@ -1,5 +1,12 @@
+pub mod Scan
+pub mod Digits
+pub mod Texts
+pub mod Tokens
+pub mod Rows
+pub mod Statements
 pub mod Emitting
 pub mod Simulation
+pub mod Compiled
+pub mod NumberLine
 pub mod Steps
 pub mod Going
-pub mod NumberLine

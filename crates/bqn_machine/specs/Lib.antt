@@ -1,3 +1,5 @@
-pub mod Execution
+pub mod Reading
 pub mod Translation
+pub mod Execution
+pub mod Compiling
 pub mod Running

@@ -3,10 +3,17 @@
 
 mod call;
 mod code;
+mod compiler;
 mod end;
+mod error;
+mod extent;
 mod line;
+mod piece;
+mod read;
 mod run;
 
 pub use code::Instr;
+pub use compiler::compile;
 pub use end::End;
+pub use error::CompileError;
 pub use run::run_code;

@@ -1,0 +1,18 @@
+-- Code that means what a source means.
+use Rattle.std.specs.Prelude.{◌≡◌, ℕ, Option, Some, None, Result, Ok, Err}
+use Rattle.std.specs.declared.vec.Vec.{Vec}
+use Rattle.std.specs.declared.alloc.Global.{Global}
+use Rattle.bqn_syntax.specs.declared.tree.Tree.{Tree}
+use Rattle.bqn_syntax.specs.Evaluation.{evaluated}
+use Rattle.bqn_machine.specs.declared.code.Instr.{Instr}
+use Rattle.bqn_machine.specs.declared.error.CompileError.{CompileError}
+use Rattle.bqn_machine.specs.declared.error.CompileError.TheVariants.{NotYet, Memory}
+use Rattle.bqn_machine.specs.Execution.{executed}
+
+-- the code of a tree does what the tree does, with any number of steps; a source without a tree has none
+abbrev pub Compiles : Option Tree → Result (Vec Instr Global) CompileError → Type 0
+Compiles (Some tree) (Ok code) = (steps : ℕ) → executed code.items steps ≡ Some (evaluated tree steps)
+Compiles None (Ok code) = ⊥
+Compiles (Some tree) (Err NotYet) = ⊥
+Compiles None (Err NotYet) = Unit {0}
+Compiles tree (Err Memory) = Unit {0}

@@ -1,0 +1,29 @@
+ghost use Rattle.std.specs.Option.{option_map};
+ghost use Rattle.bqn_syntax.specs.Form.{tree_of};
+ghost use Rattle.bqn_machine.specs.Compiling.{Compiles};
+ghost use Rattle.bqn_machine.specs.Reading.{ReadsAs};
+ghost use Rattle.bqn_machine.specs.Translation.{translation};
+
+use crate::code::{Instr, code_of};
+use crate::error::CompileError;
+use crate::read::tree;
+use std::alloc::Global;
+
+/// The code of a source.
+///
+/// # Errors
+///
+/// `NotYet` exactly where the source is not of the form that is built so far, `Memory` where memory is wanting.
+#[tactic(auto, using(crate::proofs::Compiled::compile_laws))]
+pub fn compile(alloc: Global, source: &[u8]) -> Result<Vec<Instr>, CompileError>
+    ensures translated { ReadsAs (λ code. code.items) (option_map translation (tree_of source.now)) result }
+    ensures meaning { Compiles (tree_of source.now) result }
+{
+    match tree(alloc, source) {
+        Ok(tree) => match code_of(alloc, &tree) {
+            Ok(code) => Ok(code),
+            Err(_) => Err(CompileError::Memory),
+        },
+        Err(error) => Err(error),
+    }
+}
