@@ -4,6 +4,7 @@
 mod calls;
 mod failed;
 mod files;
+mod memory_files;
 mod memory_sink;
 mod memory_source;
 mod sink;
@@ -11,6 +12,7 @@ mod source;
 
 pub use failed::Failed;
 pub use files::{FetchError, Fetched, Files};
+pub use memory_files::MemoryFiles;
 pub use memory_sink::MemorySink;
 pub use memory_source::MemorySource;
 pub use sink::Sink;
