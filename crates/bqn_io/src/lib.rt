@@ -2,6 +2,7 @@
 #![tactic(auto)]
 
 mod calls;
+mod disk_files;
 mod failed;
 mod files;
 mod memory_files;
@@ -9,7 +10,10 @@ mod memory_sink;
 mod memory_source;
 mod sink;
 mod source;
+mod std_sink;
+mod std_source;
 
+pub use disk_files::DiskFiles;
 pub use failed::Failed;
 pub use files::{FetchError, Fetched, Files};
 pub use memory_files::MemoryFiles;
@@ -17,3 +21,5 @@ pub use memory_sink::MemorySink;
 pub use memory_source::MemorySource;
 pub use sink::Sink;
 pub use source::Source;
+pub use std_sink::StdSink;
+pub use std_source::StdSource;
