@@ -74,3 +74,50 @@ impl<R: rt::Files> Files for DiskFiles<R> {
         fetched
     }
 }
+
+#[cfg(test)]
+mod tests {
+    use super::*;
+    use crate::fake::FakeReader;
+
+    // A whole file by its length, and else what is answered in its place.
+    fn shown(fetched: &Result<Fetched, FetchError>) -> Result<Option<usize>, FetchError> {
+        match fetched {
+            Ok(Fetched::Whole(bytes)) => Ok(Some(bytes.list().len())),
+            Ok(Fetched::Longer) => Ok(None),
+            Err(error) => Err(*error),
+        }
+    }
+
+    // By the bytes of the file, the limit and the read that fails.
+    const READS: [(usize, usize, u64, Result<Option<usize>, FetchError>); 6] = [
+        (3, 3, 0, Ok(Some(3))),
+        (3, 2, 0, Ok(None)),
+        (0, 0, 0, Ok(Some(0))),
+        (3, 3, 2, Err(FetchError::Failed)),
+        (usize::MAX, 5000, 0, Ok(None)),
+        (9, usize::MAX, 0, Ok(Some(9))),
+    ];
+
+    #[test]
+    fn reads_up_to_the_limit(rt: HostRuntime) {
+        for (left, limit, fails_at, want) in READS {
+            let mut reader = FakeReader {
+                left,
+                fails_at,
+                calls: 0,
+            };
+            let fetched = read_whole(rt.alloc(), &mut reader, limit);
+            assert_eq!(rt; shown(&fetched), want, "at {left} bytes");
+        }
+    }
+
+    #[test]
+    fn a_missing_file_is_a_fault(rt: HostRuntime) {
+        let alloc = rt.alloc();
+        let mut disk = DiskFiles::new(rt);
+        let fetched = disk.fetch(alloc, "no/such/file", 9);
+        assert_eq!(rt; shown(&fetched), Err(FetchError::Failed));
+        assert_eq!(rt; disk.faults, 1);
+    }
+}

@@ -4,6 +4,8 @@
 mod calls;
 mod disk_files;
 mod failed;
+#[cfg(test)]
+mod fake;
 mod files;
 mod memory_files;
 mod memory_sink;

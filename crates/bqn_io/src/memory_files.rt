@@ -147,3 +147,43 @@ impl Files for MemoryFiles {
         }
     }
 }
+
+#[cfg(test)]
+mod tests {
+    use super::*;
+    use std::test::Fail;
+
+    // What a fetch gave: the bytes, or the name of what it answered in their place.
+    fn shown(fetched: &Result<Fetched, FetchError>) -> &[u8] {
+        match fetched {
+            Ok(Fetched::Whole(bytes)) => bytes.list(),
+            Ok(Fetched::Longer) => b"Longer",
+            Err(FetchError::Failed) => b"Failed",
+            Err(FetchError::Memory) => b"Memory",
+        }
+    }
+
+    // In order; the fifth fails.
+    const FETCHES: [(&str, usize, &[u8]); 6] = [
+        ("é", 3, b"one"),
+        ("é", 2, b"Longer"),
+        ("b", 0, b""),
+        ("c", 9, b"Failed"),
+        ("é", 9, b"Failed"),
+        ("é", 9, b"one"),
+    ];
+
+    #[test]
+    fn gives_the_first_of_a_name(rt: HostRuntime) -> Result<(), Fail> {
+        let alloc = rt.alloc();
+        let mut files = Vec::new(alloc);
+        files.push((Text::new(alloc, &['é'])?, Vec::from_slice(alloc, b"one")?))?;
+        files.push((Text::new(alloc, &['b'])?, Vec::new(alloc)))?;
+        files.push((Text::new(alloc, &['é'])?, Vec::from_slice(alloc, b"two")?))?;
+        let mut files = MemoryFiles::new(alloc, files, Vec::from_slice(alloc, &[5])?)?;
+        for (name, limit, want) in FETCHES {
+            assert_eq!(rt; shown(&files.fetch(alloc, name, limit)), want);
+        }
+        Ok(())
+    }
+}

@@ -56,3 +56,37 @@ impl<W: Write> Sink for StdSink<W> {
         put
     }
 }
+
+#[cfg(test)]
+mod tests {
+    use super::*;
+    use crate::fake::FakeWriter;
+    use std::test::Fail;
+
+    // By the call that fails and the one that takes none: a put of 3 bytes is 2 writes and a flush.
+    const PUTS: [(u64, u64, Result<(), Failed>, &[u8]); 5] = [
+        (0, 0, Ok(()), b"abc"),
+        (1, 0, Err(Failed), b""),
+        (2, 0, Err(Failed), b"ab"),
+        (3, 0, Err(Failed), b"abc"),
+        (0, 2, Err(Failed), b"ab"),
+    ];
+
+    #[test]
+    fn writes_until_all_is_taken(rt: HostRuntime) -> Result<(), Fail> {
+        for (fails_at, idle_at, want, written) in PUTS {
+            let mut sink = StdSink::new(FakeWriter {
+                bytes: Vec::new(rt.alloc()),
+                fails_at,
+                idle_at,
+                calls: 0,
+            });
+            assert_eq!(rt; sink.put(b""), Ok(()));
+            assert_eq!(rt; sink.writer.calls, 0);
+            assert_eq!(rt; sink.put(b"abc"), want);
+            assert_eq!(rt; sink.writer.bytes.as_slice(), written);
+            assert_eq!(rt; sink.faults == 0, want.is_ok());
+        }
+        Ok(())
+    }
+}

@@ -51,3 +51,36 @@ impl<R: Read> Source for StdSource<R> {
         }
     }
 }
+
+#[cfg(test)]
+mod tests {
+    use super::*;
+    use crate::fake::FakeReader;
+    use std::test::Fail;
+
+    // In order: the second read fails, and after the end no read is made.
+    const TAKES: [(usize, Result<usize, Failed>, u64); 6] = [
+        (3, Ok(2), 1),
+        (0, Ok(0), 1),
+        (3, Err(Failed), 2),
+        (3, Ok(1), 3),
+        (3, Ok(0), 4),
+        (3, Ok(0), 4),
+    ];
+
+    #[test]
+    fn passes_on_what_is_read(rt: HostRuntime) -> Result<(), Fail> {
+        let mut source = StdSource::new(FakeReader {
+            left: 3,
+            fails_at: 2,
+            calls: 0,
+        });
+        for (size, want, calls) in TAKES {
+            let mut into = Vec::from_elem(rt.alloc(), 0, size)?;
+            assert_eq!(rt; source.take(&mut into), want);
+            assert_eq!(rt; source.reader.calls, calls);
+        }
+        assert_eq!(rt; source.faults, 1);
+        Ok(())
+    }
+}
