@@ -1,2 +1,4 @@
 pub mod Moved
+pub mod Shelves
+pub mod Streams
 pub mod Writing

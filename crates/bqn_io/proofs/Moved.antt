@@ -1,5 +1,5 @@
 -- What a take moves is a front of what was left.
-use Rattle.std.proofs.Common.{◌≡◌, ℕ, ◌+◌, List, ◌++◌, length, take, drop, sym, ◌∙◌, ap}
+use Rattle.std.proofs.Common.{◌≡◌, ℕ, ◌+◌, List, ◌++◌, length, take, drop, sym}
 use Rattle.std.proofs.lemmas.List.{take-append-drop, take_at, drop-drop}
 
 pub take-append-drop_more : (left copied rest : List ℕ) (count given : ℕ) (bytes : List ℕ) → left ≡ drop given bytes → copied ≡ take count left → length copied ≡ count

@@ -1,6 +1,9 @@
 -- The states of the devices that keep their bytes in memory.
-use Rattle.std.specs.Prelude.{ℕ, ◌+◌, ◌-◌, ◌^◌, min, Bool, true, false, nat_eq, if◌then◌else◌, List, [], ◌∷◌}
+use Rattle.std.specs.Prelude.{ℕ, ◌+◌, ◌-◌, ◌^◌, min, Bool, true, false, nat_eq, if◌then◌else◌, List, [], ◌∷◌, Vec, encode_utf8_all}
 use Rattle.std.specs.List.{list_any}
+use Rattle.std.specs.Cmp.Lexicographic.{pointwise}
+use Rattle.std.specs.declared.alloc.Global.{Global}
+use Rattle.bqn_io.specs.Devices.{Told, Missing, Kept}
 
 -- the list has no element
 abbrev pub is_empty : List ℕ → Bool
@@ -46,3 +49,37 @@ pub record Store : Type 0 where
 -- the bytes that are taken without a fault: none is promised where a call is said to fail
 abbrev pub room_of : Store → ℕ
 room_of store = if is_empty store.calls.failing then store.space else 0
+
+-- a kept file: its name in UTF-8, its bytes, and how many fetches of it have failed
+pub record KeptFile : Type 0 where
+  pub name : List ℕ
+  pub bytes : List ℕ
+  pub faults : ℕ
+
+-- the file has this name
+abbrev pub has_name : List ℕ → KeptFile → Bool
+has_name name file = pointwise nat_eq file.name name
+
+-- what is told of a name: of two files with one name, only the first is kept
+abbrev pub told_in : List KeptFile → List ℕ → Told
+told_in [] name = Missing
+told_in (file ∷ files) name = if has_name name file then Kept file.bytes else told_in files name
+
+-- how many fetches of a name have failed; all names that are not kept share a count
+abbrev pub faults_in : List KeptFile → ℕ → List ℕ → ℕ
+faults_in [] others name = others
+faults_in (file ∷ files) others name = if has_name name file then file.faults else faults_in files others name
+
+-- the file of a name and its bytes, of which no fetch has failed yet
+abbrev pub kept_file : (List ℕ × Vec ℕ Global) → KeptFile
+kept_file (name, bytes) = record { name = encode_utf8_all name; bytes = bytes.items; faults = 0 }
+
+-- the file, after one more fetch of it failed
+abbrev pub failed_once : KeptFile → KeptFile
+failed_once file = record { name = file.name; bytes = file.bytes; faults = one_more file.faults }
+
+-- a keeper of files: the kept ones, and how many fetches of all other names have failed
+pub record Shelf : Type 0 where
+  pub files : List KeptFile
+  pub calls : Numbered
+  pub others : ℕ

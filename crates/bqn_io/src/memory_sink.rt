@@ -85,3 +85,46 @@ impl Sink for MemorySink {
         Err(Failed)
     }
 }
+
+#[cfg(test)]
+mod tests {
+    use super::*;
+    use std::test::Fail;
+
+    // What a caller knows of a put within the room of a new sink.
+    fn stored(alloc: Global, piece: &[u8]) -> Result<MemorySink, Memory>
+        ensures { IfOk result (λ sink. sink.written ≡ piece.now) }
+    {
+        let mut sink = MemorySink::new(alloc, piece.len(), Vec::new(alloc))?;
+        let put = sink.put(piece);
+        prove!(put.is_ok());
+        Ok(sink)
+    }
+
+    // In order: the second numbered put fails, and the third passes the room.
+    const PUTS: [(&[u8], Result<(), Failed>); 6] = [
+        (b"ab", Ok(())),
+        (b"", Ok(())),
+        (b"x", Err(Failed)),
+        (b"cdef", Err(Failed)),
+        (b"", Ok(())),
+        (b"g", Err(Failed)),
+    ];
+
+    #[test]
+    fn keeps_what_fits(rt: HostRuntime) -> Result<(), Fail> {
+        let alloc = rt.alloc();
+        let mut sink = MemorySink::new(alloc, 5, Vec::from_slice(alloc, &[2])?)?;
+        for (piece, want) in PUTS {
+            assert_eq!(rt; sink.put(piece), want);
+        }
+        assert_eq!(rt; sink.written(), b"abcde".as_slice());
+        Ok(())
+    }
+
+    #[test]
+    fn keeps_a_piece(rt: HostRuntime) -> Result<(), Fail> {
+        assert_eq!(rt; stored(rt.alloc(), b"ab")?.written(), b"ab".as_slice());
+        Ok(())
+    }
+}

@@ -1,4 +1,4 @@
-ghost use Rattle.std.specs.Prelude.{◌≡◌, ◌<◌, ◌≤◌, max, true, false, [], drop, length, Some};
+ghost use Rattle.std.specs.Prelude.{◌≡◌, ◌<◌, ◌≤◌, max, IsOk, true, false, [], drop, length, Some};
 ghost use Rattle.bqn_io.specs.States.{is_empty, numbered};
 
 use crate::calls::Calls;
@@ -84,5 +84,72 @@ impl Source for MemorySource {
         self.given += count;
         self.is_ended = count == 0;
         Ok(count)
+    }
+}
+
+#[cfg(test)]
+mod tests {
+    use super::*;
+    use std::alloc::Global;
+    use std::test::Fail;
+
+    // What a caller with any source knows where no take fails.
+    fn first<S: Source>(source: &mut S, into: &mut [u8]) -> Result<usize, Failed>
+        requires { S.is_steady source.old ≡ true }
+        ensures { IsOk result }
+    {
+        source.take(into)
+    }
+
+    // What a caller knows of a new source whose list of failing calls is empty.
+    fn count_of_first(alloc: Global, bytes: Vec<u8>, into: &mut [u8]) -> usize {
+        let mut source = MemorySource::new(bytes, 1, Vec::new(alloc));
+        let taken = first(&mut source, into);
+        prove!(taken.is_ok());
+        taken.unwrap_or(0)
+    }
+
+    // By the size of `into`, in order: at most 2 bytes come, and the second numbered call fails.
+    const TAKES: [(usize, Result<usize, Failed>); 8] = [
+        (0, Ok(0)),
+        (3, Ok(2)),
+        (3, Err(Failed)),
+        (0, Ok(0)),
+        (1, Ok(1)),
+        (3, Ok(2)),
+        (3, Ok(0)),
+        (3, Ok(0)),
+    ];
+
+    #[test]
+    fn gives_pieces(rt: HostRuntime) -> Result<(), Fail> {
+        let alloc = rt.alloc();
+        let failing = Vec::from_slice(alloc, &[2, 6])?;
+        let mut source = MemorySource::new(Vec::from_slice(alloc, b"abcde")?, 2, failing);
+        let mut seen = Vec::new(alloc);
+        for (size, want) in TAKES {
+            let mut into = Vec::from_elem(alloc, 0, size)?;
+            let taken = source.take(&mut into);
+            assert_eq!(rt; taken, want, "at {size}");
+            into.truncate(taken.unwrap_or(0));
+            seen.extend_from_slice(&into)?;
+        }
+        assert_eq!(rt; seen.as_slice(), b"abcde".as_slice());
+        assert_eq!(rt; source.left().len(), 0);
+        Ok(())
+    }
+
+    #[test]
+    fn no_piece_is_empty(rt: HostRuntime) -> Result<(), Fail> {
+        let alloc = rt.alloc();
+        let mut source = MemorySource::new(Vec::from_slice(alloc, b"ab")?, 0, Vec::new(alloc));
+        let mut into = [0; 2];
+        assert_eq!(rt; source.take(&mut into), Ok(1));
+        assert_eq!(rt; source.left(), b"b".as_slice());
+        assert_eq!(rt;
+            count_of_first(alloc, Vec::from_slice(alloc, b"ab")?, &mut into),
+            1
+        );
+        Ok(())
     }
 }
