@@ -1,5 +1,6 @@
 -- What a command line is answered: the bytes to write, and the status. This project's own.
 use Rattle.std.specs.Prelude.{◌≡◌, ℕ, List, [], ◌++◌, Option, Some, None, encode_utf8_all}
+use Rattle.bqn_base.specs.declared.fault.Fault.{Fault}
 use Rattle.bqn_base.specs.declared.refusal.Refusal.{Refusal}
 use Rattle.bqn_base.specs.declared.refusal.Refusal.TheVariants.{NotYet}
 use Rattle.bqn_base.specs.declared.status.Status.{Status}
@@ -22,6 +23,10 @@ default_steps = 1000000
 -- the line of a refusal
 abbrev pub refused : Refusal → Answer
 refused refusal = record { out = encode_utf8_all (refusal_line refusal); status = status.Refused }
+
+-- the line of an uncaught fault
+abbrev pub faulted : Fault → Answer
+faulted fault = record { out = encode_utf8_all (error_line fault); status = status.Fault }
 
 -- what was written, and behind it the line of an uncaught fault
 abbrev pub ended : Res (Unit {0}) → Answer

@@ -69,3 +69,12 @@ LeavesFiles NoCommand old new = new ≡ old
 -- no command touches the input yet
 abbrev pub LeavesInput : {S : Type 0} → Command → S → S → Type 0
 LeavesInput command old new = new ≡ old
+
+-- what a command does to files and a sink, which show what the traits `Files` and `Sink` say
+module _ {F K : Type 0} (told : F → List ℕ → Told) (is_steady : F → Bool) (file_faults : F → List ℕ → ℕ) (written : K → Option (List ℕ)) (room faults : K → ℕ) where
+  pub record Meets (command : Command) (old_files new_files : F) (old new : K) (status : Status) : Type 0 where
+    pub answer : IsWhole (Answers command (told old_files)) (written old) (written new) status
+    pub prefix : IsPrefix (Answers command (told old_files)) (written old) (written new) status
+    pub causes : Cause (λ file. Rose (file_faults old_files file) (file_faults new_files file)) (Rose (faults old) (faults new)) command status
+    pub completeness : is_steady old_files ≡ true → Fits command (told old_files) (room old) → IsNoFailure status
+    pub files : LeavesFiles command old_files new_files

@@ -1,3 +1,5 @@
+pub mod Texts
 pub mod Command
 pub mod Answer
 pub mod Headline
+pub mod Writing

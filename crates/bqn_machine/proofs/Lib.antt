@@ -1,5 +1,6 @@
 pub mod Scan
 pub mod Digits
+pub mod Behind
 pub mod Texts
 pub mod Tokens
 pub mod Rows

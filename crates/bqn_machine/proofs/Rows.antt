@@ -1,5 +1,5 @@
 -- Rows, which are read leftward.
-use Rattle.std.proofs.Common.{◌≡◌, ◌≤◌, ◌+◌, ◌-◌, ℕ, zero, suc, ℤ, List, [], ◌∷◌, ◌++◌, Option, Some, None, length, take, refl, sym, ap, ◌∙◌, arith, append_assoc}
+use Rattle.std.proofs.Common.{◌≡◌, ◌≤◌, ◌+◌, ◌-◌, ℕ, zero, suc, ℤ, List, [], ◌∷◌, ◌++◌, Option, Some, None, length, take, refl, sym, ap, ◌∙◌, arith}
 use Rattle.std.specs.Prelude.{reverse, slice_get}
 use Rattle.std.proofs.lemmas.List.{append-nil, reverse-append, reverse-reverse, length-append, length-reverse}
 use Rattle.std.proofs.lemmas.Grind.{reverse_onto}
@@ -11,13 +11,14 @@ use Rattle.bqn_syntax.specs.declared.tree.Step.{Step}
 use Rattle.bqn_syntax.specs.declared.tree.Expr.{Expr}
 use Rattle.bqn_syntax.specs.Form.{with_step, steps_of, expr_of, with_row}
 use Rattle.bqn_machine.specs.Reading.{behind, left_of, behind_left}
+use Rattle.bqn_machine.proofs.Behind.{behind-nil, behind-cons}
 
-pub reverse-pushed : (row : List Token) (t : Token) → reverse (row ++ t ∷ []) ≡ t ∷ reverse row
+reverse-pushed : (row : List Token) (t : Token) → reverse (row ++ t ∷ []) ≡ t ∷ reverse row
 reverse-pushed row t = reverse-append row (t ∷ [])
 
-abbrev pub first_of : List Token → Option Token
-first_of [] = None
-first_of (t ∷ row) = Some t
+abbrev first_in : List Token → Option Token
+first_in [] = None
+first_in (t ∷ row) = Some t
 
 slice_get-pushed : (row : List Token) (t : Token) (i : ℕ) → i ≡ length row → slice_get (row ++ t ∷ []) i ≡ Some t
 slice_get-pushed [] t zero e = refl
@@ -37,13 +38,13 @@ length-pushed row t = let e : length (row ++ t ∷ []) ≡ length row + 1 = leng
 reverse-cons : (t : Token) (row : List Token) → reverse (t ∷ row) ≡ reverse row ++ t ∷ []
 reverse-cons t row = reverse_onto row t []
 
-last-unreversed : (row : List Token) → slice_get (reverse row) (length (reverse row) - 1) ≡ first_of row
+last-unreversed : (row : List Token) → slice_get (reverse row) (length (reverse row) - 1) ≡ first_in row
 last-unreversed [] = refl
 last-unreversed (t ∷ row) =
     ap (λ (r : List Token). slice_get r (length r - 1)) (reverse-cons t row)
     ∙ slice_get-pushed (reverse row) t (length (reverse row ++ t ∷ []) - 1) (length-pushed (reverse row) t)
 
-pub last-reverse : (row : List Token) → slice_get row (length row - 1) ≡ first_of (reverse row)
+last-reverse : (row : List Token) → slice_get row (length row - 1) ≡ first_in (reverse row)
 last-reverse row = ap (λ (r : List Token). slice_get r (length r - 1)) (sym (reverse-reverse row)) ∙ last-unreversed (reverse row)
 
 abbrev number_in : Option Token → Option ℤ
@@ -51,7 +52,7 @@ number_in None = None
 number_in (Some (token.Number w)) = Some w
 number_in (Some t) = None
 
-left_of-first : (row : List Token) → left_of row ≡ number_in (first_of row)
+left_of-first : (row : List Token) → left_of row ≡ number_in (first_in row)
 left_of-first [] = refl
 left_of-first (token.Number w ∷ row) = refl
 left_of-first (token.Function f ∷ row) = refl
@@ -86,38 +87,14 @@ steps_of-function f (token.Number w ∷ row) = refl
 steps_of-function f (token.Function g ∷ row) = refl
 steps_of-function f (token.Separator ∷ row) = refl
 
-pub behind-nil : (r : Option (List Step)) → behind [] r ≡ r
-behind-nil None = refl
-behind-nil (Some r) = refl
-
-behind-with_step : (steps : List Step) (f : Function) (left : Option ℤ) (more : Option (List Step)) → behind steps (with_step f left more) ≡ behind (steps ++ record { function = f; left = left } ∷ []) more
-behind-with_step steps f left None = refl
-behind-with_step steps f left (Some more) = ap (λ (x : List Step). Some x) (sym (append_assoc steps (record { function = f; left = left } ∷ []) more))
-
 pub steps-step : (steps : List Step) (row popped rest : List Token) (f : Function) (left : Option ℤ) → row ≡ popped ++ token.Function f ∷ [] → left ≡ left_of (reverse popped) → reverse rest ≡ behind_left (reverse popped) → behind steps (steps_of (reverse row)) ≡ behind (steps ++ record { function = f; left = left } ∷ []) (steps_of (reverse rest))
 steps-step steps row popped rest f left e l r =
     ap (λ (x : List Token). behind steps (steps_of (reverse x))) e
     ∙ ap (λ (x : List Token). behind steps (steps_of x)) (reverse-pushed popped (token.Function f))
     ∙ ap (λ (x : Option (List Step)). behind steps x) (steps_of-function f (reverse popped))
-    ∙ behind-with_step steps f (left_of (reverse popped)) (steps_of (behind_left (reverse popped)))
+    ∙ behind-cons steps (record { function = f; left = left_of (reverse popped) }) (steps_of (behind_left (reverse popped)))
     ∙ ap (λ (x : Option ℤ). behind (steps ++ record { function = f; left = x } ∷ []) (steps_of (behind_left (reverse popped)))) (sym l)
     ∙ ap (λ (x : List Token). behind (steps ++ record { function = f; left = left } ∷ []) (steps_of x)) (sym r)
-
--- a token that is no function ends no application
-abbrev pub IsOther : Token → Type 0
-IsOther (token.Function f) = ⊥
-IsOther t = Unit {0}
-
-steps_of-other : (t : Token) (row : List Token) → IsOther t → steps_of (t ∷ row) ≡ None
-steps_of-other (token.Number w) row h = refl
-steps_of-other (token.Separator) row h = refl
-steps_of-other (token.Function f) row h = absurd h
-
-pub steps-stuck : (steps : List Step) (row popped : List Token) (t : Token) → row ≡ popped ++ t ∷ [] → IsOther t → behind steps (steps_of (reverse row)) ≡ None
-steps-stuck steps row popped t e h =
-    ap (λ (x : List Token). behind steps (steps_of (reverse x))) e
-    ∙ ap (λ (x : List Token). behind steps (steps_of x)) (reverse-pushed popped t)
-    ∙ ap (λ (x : Option (List Step)). behind steps x) (steps_of-other t (reverse popped) h)
 
 pub steps-end : (steps : List Step) (row : List Token) → length row ≡ 0 → behind steps (steps_of (reverse row)) ≡ Some steps
 steps-end steps [] e = ap (λ (x : List Step). Some x) (append-nil steps)
@@ -140,32 +117,14 @@ expr-stuck row popped w e k =
     ∙ ap (λ (x : List Token). expr_of x) (reverse-pushed popped (token.Number w))
     ∙ expr_of-number w (reverse popped) None k
 
--- what no row may end in
-abbrev pub IsNoNumber : Option Token → Type 0
-IsNoNumber (Some (token.Number w)) = ⊥
-IsNoNumber t = Unit {0}
-
-pub expr-other : (row : List Token) → left_of (reverse row) ≡ None → expr_of (reverse row) ≡ None
-expr-other row e = go (reverse row) e
-  where
-    go : (r : List Token) → left_of r ≡ None → expr_of r ≡ None
-    go [] h = refl
-    go (token.Number w ∷ r) h = cc
-    go (token.Function f ∷ r) h = refl
-    go (token.Separator ∷ r) h = refl
-
 pub ruleset expr_laws = (expr-some, expr-stuck)
 
 pub with_row-empty : (ss : List Expr) (row : List Token) → length row ≡ 0 → behind ss (with_row (reverse row) (Some [])) ≡ Some ss
 with_row-empty ss [] e = ap (λ (x : List Expr). Some x) (append-nil ss)
 with_row-empty ss (t ∷ row) e = absurd (omega arith)
 
-abbrev pub with_expr : Option Expr → Option (List Expr) → Option (List Expr)
+abbrev with_expr : Option Expr → Option (List Expr) → Option (List Expr)
 with_expr e ss = option_and_then (λ x. option_map (λ xs. x ∷ xs) ss) e
-
-with_row-expr : (row : List Token) (ss : Option (List Expr)) → 1 ≤ length row → with_row row ss ≡ with_expr (expr_of row) ss
-with_row-expr [] ss le = absurd (omega arith)
-with_row-expr (t ∷ row) ss le = refl
 
 pub with_row-some : (ss : List Expr) (row : List Token) (e : Expr) → expr_of (reverse row) ≡ Some e → behind ss (with_row (reverse row) (Some [])) ≡ Some (ss ++ e ∷ [])
 with_row-some ss row e h = go (reverse row) h

@@ -53,9 +53,9 @@ without_returns-none (c ∷ cs) e =
 
 abbrev text_if : Bool → Bool → List ℕ → Result (List ℕ) Refusal
 text_if long valid bytes = elim long [
-    true ↦ Err TooLong
+  | true ↦ Err TooLong
   | false ↦ elim valid [ true ↦ Ok (without_returns (chars bytes)) | false ↦ Err (NotUtf8 (utf8_valid_len bytes)) ]
-  ]
+]
 
 text_of-cases : (bytes : List ℕ) (valid : Bool) → length bytes ≤ 4096 → is_utf8 bytes ≡ valid → text_of bytes ≡ text_if false valid bytes
 text_of-cases bytes valid le e =

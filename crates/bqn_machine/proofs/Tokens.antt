@@ -1,5 +1,5 @@
 -- The tokens of a text, piece by piece.
-use Rattle.std.proofs.Common.{◌≡◌, ◌≤◌, ◌-◌, ℕ, zero, suc, List, [], ◌∷◌, ◌++◌, Bool, true, false, Option, Some, None, length, take, drop, refl, sym, ap, subst, ◌∙◌, arith, append_assoc}
+use Rattle.std.proofs.Common.{◌≡◌, ◌≤◌, ◌-◌, ℕ, zero, suc, List, [], ◌∷◌, ◌++◌, Bool, true, false, Option, Some, None, length, take, drop, refl, sym, ap, subst, ◌∙◌, arith}
 use Rattle.std.proofs.lemmas.List.{append-nil}
 use Rattle.std.specs.Option.{option_and_then}
 use Rattle.bqn_syntax.specs.declared.progress.Progress.{Progress}
@@ -9,6 +9,7 @@ use Rattle.bqn_syntax.specs.Table.{next, is_final}
 use Rattle.bqn_syntax.specs.Cut.{longest, one_more, with_piece, pieces_behind, pieces_of}
 use Rattle.bqn_syntax.specs.Form.{token_of, with_token, tokens_of}
 use Rattle.bqn_machine.specs.Reading.{behind, tokens_in}
+use Rattle.bqn_machine.proofs.Behind.{behind-nil, behind-cons}
 
 -- a longest piece has a character, and lies inside
 abbrev Extent : List ℕ → Option ℕ → Type 0
@@ -78,21 +79,13 @@ tokens_of-piece front (Some ps) = refl
 tokens_in-piece : (text : List ℕ) (count : ℕ) → longest Start text ≡ Some count → tokens_in text ≡ with_token (token_of (take count text)) (tokens_in (drop count text))
 tokens_in-piece text count e = ap (λ (ps : Option (List (List ℕ))). option_and_then tokens_of ps) (pieces_of-piece text count e) ∙ tokens_of-piece (take count text) (pieces_of (drop count text))
 
-behind-with_token : (ts : List Token) (t : Token) (more : Option (List Token)) → behind ts (with_token (Some (Some t)) more) ≡ behind (ts ++ t ∷ []) more
-behind-with_token ts t None = refl
-behind-with_token ts t (Some more) = ap (λ (x : List Token). Some x) (sym (append_assoc ts (t ∷ []) more))
-
-pub behind-nil : {A : Type 0} (r : Option (List A)) → behind [] r ≡ r
-behind-nil None = refl
-behind-nil (Some r) = refl
-
 pub tokens-blank : (ts : List Token) (rest : List ℕ) (count : ℕ) → longest Start rest ≡ Some count → token_of (take count rest) ≡ Some None → behind ts (tokens_in rest) ≡ behind ts (tokens_in (drop count rest))
 tokens-blank ts rest count e k = ap (λ (x : Option (List Token)). behind ts x) (tokens_in-piece rest count e ∙ ap (λ (t : Option (Option Token)). with_token t (tokens_in (drop count rest))) k)
 
 pub tokens-token : (ts : List Token) (rest : List ℕ) (count : ℕ) (t : Token) → longest Start rest ≡ Some count → token_of (take count rest) ≡ Some (Some t) → behind ts (tokens_in rest) ≡ behind (ts ++ t ∷ []) (tokens_in (drop count rest))
 tokens-token ts rest count t e k =
     ap (λ (x : Option (List Token)). behind ts x) (tokens_in-piece rest count e ∙ ap (λ (s : Option (Option Token)). with_token s (tokens_in (drop count rest))) k)
-    ∙ behind-with_token ts t (tokens_in (drop count rest))
+    ∙ behind-cons ts t (tokens_in (drop count rest))
 
 pub tokens-other : (ts : List Token) (rest : List ℕ) (count : ℕ) → longest Start rest ≡ Some count → token_of (take count rest) ≡ None → behind ts (tokens_in rest) ≡ None
 tokens-other ts rest count e k = ap (λ (x : Option (List Token)). behind ts x) (tokens_in-piece rest count e ∙ ap (λ (t : Option (Option Token)). with_token t (tokens_in (drop count rest))) k)

@@ -7,12 +7,12 @@ use bqn_syntax::Progress;
 
 /// What is a piece by itself: blanks, punctuation, `@`, special names and primitives.
 const SINGLES: [char; 97] = [
-    ' ', '\t', '\n', '←', '⇐', '↩', '(', ')', '{', '}', '⟨', '⟩', '[', ']', '‿', '·', '⋄', ',', '.',
-    ';', ':', '?', '@', '𝕨', '𝕩', '𝕤', '𝕗', '𝕘', '𝕎', '𝕏', '𝕊', '𝔽', '𝔾', '+', '-', '×', '÷', '⋆',
-    '√', '⌊', '⌈', '|', '¬', '∧', '∨', '<', '>', '≠', '=', '≤', '≥', '≡', '≢', '⊣', '⊢', '⥊', '∾',
-    '≍', '⋈', '↑', '↓', '↕', '«', '»', '⌽', '⍉', '/', '⍋', '⍒', '⊏', '⊑', '⊐', '⊒', '∊', '⍷', '⊔',
-    '!', '˙', '˜', '˘', '¨', '⌜', '⁼', '´', '˝', '`', '∘', '○', '⊸', '⟜', '⌾', '⊘', '◶', '⎉', '⚇',
-    '⍟', '⎊',
+    ' ', '\t', '\n', '←', '⇐', '↩', '(', ')', '{', '}', '⟨', '⟩', '[', ']', '‿', '·', '⋄', ',',
+    '.', ';', ':', '?', '@', '𝕨', '𝕩', '𝕤', '𝕗', '𝕘', '𝕎', '𝕏', '𝕊', '𝔽', '𝔾', '+', '-', '×', '÷',
+    '⋆', '√', '⌊', '⌈', '|', '¬', '∧', '∨', '<', '>', '≠', '=', '≤', '≥', '≡', '≢', '⊣', '⊢', '⥊',
+    '∾', '≍', '⋈', '↑', '↓', '↕', '«', '»', '⌽', '⍉', '/', '⍋', '⍒', '⊏', '⊑', '⊐', '⊒', '∊', '⍷',
+    '⊔', '!', '˙', '˜', '˘', '¨', '⌜', '⁼', '´', '˝', '`', '∘', '○', '⊸', '⟜', '⌾', '⊘', '◶', '⎉',
+    '⚇', '⍟', '⎊',
 ];
 
 /// Whether this is a digit.
@@ -98,8 +98,14 @@ fn may_end(progress: Progress) -> bool
     ensures { result ≡ is_final progress }
 {
     match progress {
-        Progress::Done | Progress::Comment | Progress::Word | Progress::Digit | Progress::Closed => true,
-        Progress::Start | Progress::Dot | Progress::Bullet | Progress::Quote | Progress::Quoted | Progress::Inside => false,
+        Progress::Done | Progress::Comment | Progress::Word | Progress::Digit | Progress::Closed =>
+            true,
+        Progress::Start
+        | Progress::Dot
+        | Progress::Bullet
+        | Progress::Quote
+        | Progress::Quoted
+        | Progress::Inside => false,
     }
 }
 

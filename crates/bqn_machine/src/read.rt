@@ -107,12 +107,19 @@ fn expr(alloc: Global, row: &mut Vec<Token>) -> Result<Expr, CompileError>
         return Err(CompileError::NotYet);
     };
     let steps = steps(alloc, row)?;
-    Ok(Expr { last, steps: Row::new(steps) })
+    Ok(Expr {
+        last,
+        steps: Row::new(steps),
+    })
 }
 
 /// Adds the statement of a row, unless it is empty, and empties it.
 #[tactic(auto, using(crate::proofs::Rows::end_laws))]
-fn end_row(alloc: Global, row: &mut Vec<Token>, statements: &mut Vec<Expr>) -> Result<(), CompileError>
+fn end_row(
+    alloc: Global,
+    row: &mut Vec<Token>,
+    statements: &mut Vec<Expr>,
+) -> Result<(), CompileError>
     ensures added { ReadsAs (λ done. statements.new.items) (behind statements.old.items (with_row (reverse row.old.items) (Some []))) result }
     ensures emptied { OnOk result (row.new.items ≡ []) }
 {
@@ -153,7 +160,9 @@ pub(crate) fn tree(alloc: Global, source: &[u8]) -> Result<Tree, CompileError>
     let text = characters(alloc, source)?;
     let tokens = tokens(alloc, text.as_slice())?;
     let statements = statements(alloc, tokens.as_slice())?;
-    Ok(Tree { statements: Row::new(statements) })
+    Ok(Tree {
+        statements: Row::new(statements),
+    })
 }
 
 #[cfg(test)]
@@ -164,10 +173,16 @@ mod tests {
 
     #[test]
     fn reads_the_first_form(rt: HostRuntime) -> Result<(), Fail> {
-        let show = Step { function: Function::Show, left: None };
-        let minus = |left| Step { function: Function::Minus, left: Some(left) };
-        let least = "•Show 10-¯9223372036854775808,\t\n⋄ 7";
-        let read = tree(rt.alloc(), least.as_bytes())?;
+        let show = Step {
+            function: Function::Show,
+            left: None,
+        };
+        let minus = |left| Step {
+            function: Function::Minus,
+            left: Some(left),
+        };
+        let source = "•Show 10-¯9223372036854775808,\t\n⋄ 7";
+        let read = tree(rt.alloc(), source.as_bytes())?;
         let [first, second] = read.statements.list() else {
             return Err(Fail::from("two statements"));
         };
@@ -201,6 +216,9 @@ mod tests {
             };
             assert_eq!(rt; count, want, "at {source}");
         }
-        assert_eq!(rt; tree(rt.alloc(), &[49, 255]).err(), Some(CompileError::NotYet));
+        assert_eq!(rt;
+            tree(rt.alloc(), &[49, 255]).err(),
+            Some(CompileError::NotYet)
+        );
     }
 }

@@ -1,15 +1,12 @@
 -- Cuts, trees and evaluations, computed.
-use Rattle.std.proofs.Common.{◌≡◌, ℕ, ℤ, pos, negsuc, List, [], ◌∷◌, ◌++◌, Option, Some, None, Result, Ok, Err, refl}
+use Rattle.std.proofs.Common.{◌≡◌, ℕ, pos, negsuc, List, [], ◌∷◌, Option, Some, None, Ok, refl}
 use Rattle.std.specs.Str.{chars, is_utf8}
 use Rattle.std.specs.Option.{option_map}
 use Rattle.std.specs.Prelude.{encode_utf8_all}
 use Rattle.std.specs.Fmt.{digits}
 use lib.Chars.{codes}
 use lib.Utf8.{encode}
-use Rattle.bqn_base.specs.declared.fault.Fault.{Fault}
 use Rattle.bqn_base.specs.declared.fault.Fault.TheVariants.{Overflow, Domain}
-use Rattle.bqn_base.specs.declared.refusal.Refusal.TheVariants.{NotUtf8}
-use Rattle.bqn_syntax.specs.declared.tree.Tree.{Tree}
 use Rattle.bqn_syntax.specs.Text.{text_of}
 use Rattle.bqn_syntax.specs.Cut.{pieces_of}
 use Rattle.bqn_syntax.specs.Form.{number_of, tree_of}

@@ -36,9 +36,9 @@ abbrev pub pieces_behind : ℕ → List ℕ → Option (List (List ℕ))
 pieces_behind count [] = Some []
 pieces_behind (suc count) (c ∷ cs) = pieces_behind count cs
 pieces_behind zero (c ∷ cs) = elim (longest Start (c ∷ cs)) [
-    None ↦ None
+  | None ↦ None
   | Some count ↦ with_piece (take count (c ∷ cs)) (pieces_behind (count - 1) cs)
-  ]
+]
 
 -- the pieces of a text, or none where there is no cut
 abbrev pub pieces_of : List ℕ → Option (List (List ℕ))

@@ -3,3 +3,4 @@ pub mod Table
 pub mod Cut
 pub mod Form
 pub mod Evaluation
+pub mod Laws

@@ -17,6 +17,6 @@ without_returns (c ∷ cs) = elim (is_dropped c cs) [ true ↦ without_returns c
 -- the code points of a source of at most 2^20 bytes, or its refusal at the longest valid prefix
 abbrev pub text_of : List ℕ → Result (List ℕ) Refusal
 text_of bytes = elim (nat_lt (2 ^ 20) (length bytes)) [
-    true ↦ Err TooLong
+  | true ↦ Err TooLong
   | false ↦ elim (is_utf8 bytes) [ true ↦ Ok (without_returns (chars bytes)) | false ↦ Err (NotUtf8 (utf8_valid_len bytes)) ]
-  ]
+]

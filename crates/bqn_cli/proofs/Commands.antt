@@ -1,0 +1,180 @@
+-- A `run` command, from what the fetch gave to what is promised.
+use Rattle.std.proofs.Common.{◌≡◌, ◌≤◌, ◌<◌, ◌^◌, ℕ, zero, suc, Bool, true, false, List, [], ◌∷◌, ◌++◌, length, Option, Some, None, Result, Ok, Err, refl, sym, ap, ◌∙◌, subst, arith}
+use Rattle.std.specs.Prelude.{not, ◌&&◌, nat_le}
+use Rattle.std.specs.Option.{option_and_then}
+use Rattle.std.specs.Result.{result_ok}
+use Rattle.std.proofs.lemmas.Bool.Decides.{nat_tests}
+use Rattle.bqn_base.specs.declared.fault.Fault.{Fault}
+use Rattle.bqn_base.specs.declared.refusal.Refusal.TheVariants.{NotYet}
+use Rattle.bqn_base.specs.declared.status.Status.{Status}
+use Rattle.bqn_base.specs.declared.status.Status.TheVariants as status
+use Rattle.bqn_io.specs.declared.files.Fetched.{Fetched}
+use Rattle.bqn_io.specs.declared.files.Fetched.TheVariants as fetched
+use Rattle.bqn_io.specs.declared.files.FetchError.{FetchError}
+use Rattle.bqn_io.specs.declared.files.FetchError.TheVariants as error
+use Rattle.bqn_io.specs.Devices.{added, Rose, Told, Untold, Missing, Kept, Fetches, IsKept, IsNoFailure as FetchIsNoFailure}
+use Rattle.bqn_io.specs.Writing.{Adds, AddsPart, Breaks}
+use Rattle.bqn_io.proofs.Writing.{added-nil}
+use Rattle.bqn_syntax.specs.declared.tree.Step.{Step}
+use Rattle.bqn_syntax.specs.declared.tree.Expr.{Expr}
+use Rattle.bqn_syntax.specs.declared.tree.Tree.{Tree}
+use Rattle.bqn_syntax.specs.Text.{text_of}
+use Rattle.bqn_syntax.specs.Table.{is_one_of}
+use Rattle.bqn_syntax.specs.Form.{is_short, tree_of, tree_of_text}
+use Rattle.bqn_syntax.specs.Evaluation.{State, Res, Gives as Value, Faults, Spends, M, then_do, answered, answer_of, output_of, wrote, call, eval_steps, eval_expr, eval_statements, evaluated}
+use Rattle.std.specs.Prelude.{ℤ}
+use Rattle.bqn_cli.specs.declared.halted.Halted.{Halted}
+use Rattle.bqn_cli.specs.declared.halted.Halted.TheVariants as halted
+use Rattle.bqn_cli.specs.Command.{Command, Run, NoCommand}
+use Rattle.bqn_cli.specs.Answer.{Answer, AnswersSome, FileAnswers, Answers, source_answer, tree_answer, ended, refused, default_steps}
+use Rattle.bqn_cli.specs.Headline.{Whole, Prefix, IsWhole, IsPrefix, Cause, Fits, FileFits, IsNoFailure, LeavesFiles, Meets}
+use Rattle.bqn_cli.specs.Writing.{Gives, fetched_answer, status_of}
+
+-- a source that is too long for any is not of the form
+is_short-long : (source : List ℕ) → 1048576 < length source → is_short source ≡ false
+is_short-long source long =
+    let over : nat_le (length source) 4096 ≡ false = over_limit (length source) long in
+    ap (λ (b : Bool). b && not (is_one_of source 13)) over
+  where
+    over_limit : (n : ℕ) → 1048576 < n → nat_le n 4096 ≡ false
+    over_limit n h = grind (arith, nat_tests)
+
+source_answer-long : (source : List ℕ) → 1048576 < length source → source_answer source ≡ refused NotYet
+source_answer-long source long =
+    ap (λ (b : Bool). tree_answer (elim b [ false ↦ None | true ↦ option_and_then tree_of_text (result_ok (text_of source)) ])) (is_short-long source long)
+
+-- what was fetched has the answer of the file
+answers-fetched : (told : Told) (given : Fetched) → Fetches told 1048576 (Ok given) → FileAnswers told (fetched_answer given)
+answers-fetched Untold (fetched.Whole bytes) h = record { source = bytes; is = refl }
+answers-fetched Untold fetched.Longer h = record { source = 13 ∷ []; is = refl }
+answers-fetched Missing given h = absurd h
+answers-fetched (Kept kept) (fetched.Whole bytes) h = ap source_answer h.0
+answers-fetched (Kept kept) fetched.Longer h = sym (source_answer-long kept h)
+
+-- the answers to a file
+record SomeAnswer (told : Told) : Type 0 where
+  answer : Answer
+  answers : FileAnswers told answer
+
+some_answer : (told : Told) → SomeAnswer told
+some_answer Untold = record { answer = source_answer []; answers = record { source = []; is = refl } }
+some_answer Missing = record { answer = record { out = []; status = status.ReadFault }; answers = refl }
+some_answer (Kept source) = record { answer = source_answer source; answers = refl }
+
+-- a status with which a run ends
+abbrev IsRunStatus : Status → Type 0
+IsRunStatus status.Done = Unit {0}
+IsRunStatus status.Fault = Unit {0}
+IsRunStatus status.Refused = Unit {0}
+IsRunStatus _ = ⊥
+
+abbrev HasSteps : {A : Type 0} → Res A → Type 0
+HasSteps (Value v s) = Unit {0}
+HasSteps (Faults f s) = Unit {0}
+HasSteps (Spends s) = ⊥
+
+has_steps-then : {A B : Type 0} (r : Res A) (go : A → M B) → HasSteps r → ((v : A) (s : State) → HasSteps (go v s)) → HasSteps (then_do r go)
+has_steps-then (Value v s) go h k = k v s
+has_steps-then (Faults f s) go h k = tt
+has_steps-then (Spends s) go h k = absurd h
+
+has_steps-answered : (r : Result ℤ Fault) (s : State) → HasSteps (answered r s)
+has_steps-answered (Ok y) s = tt
+has_steps-answered (Err f) s = tt
+
+-- no step is taken behind the first
+has_steps-steps : (steps : List Step) (x : ℤ) (s : State) → HasSteps (eval_steps steps x s)
+has_steps-steps [] x s = tt
+has_steps-steps (step ∷ steps) x s =
+    has_steps-then (call step.function step.left x s) (eval_steps steps)
+        (has_steps-answered (answer_of step.function step.left x) (wrote s (output_of step.function step.left x))) (λ y t. has_steps-steps steps y t)
+
+has_steps-statements : (es : List Expr) (s : State) → HasSteps (eval_statements es s)
+has_steps-statements [] s = tt
+has_steps-statements (e ∷ es) s = has_steps-then (eval_expr e s) (λ v. eval_statements es) (has_steps-steps e.steps e.last s) (λ v t. has_steps-statements es t)
+
+ended-status : (r : Res (Unit {0})) → HasSteps r → IsRunStatus (ended r).status
+ended-status (Value u s) h = tt
+ended-status (Faults f s) h = tt
+ended-status (Spends s) h = absurd h
+
+tree_answer-status : (tree : Option Tree) → IsRunStatus (tree_answer tree).status
+tree_answer-status None = tt
+tree_answer-status (Some tree) = ended-status (evaluated tree default_steps) (has_steps-statements tree.statements (record { written = []; left = 999999 }))
+
+fetched_answer-status : (given : Fetched) → IsRunStatus (fetched_answer given).status
+fetched_answer-status (fetched.Whole source) = tree_answer-status (tree_of source)
+fetched_answer-status fetched.Longer = tt
+
+module _ {K : Type 0} (written : K → Option (List ℕ)) (room faults : K → ℕ) where
+  pub prefix-breaks : (Answered : Answer → Type 0) (answer : Answer) (old new : K) → Answered answer → Breaks written room faults old new answer.out → Prefix Answered (written old) (written new)
+  prefix-breaks Answered answer old new a b = record { answer = answer; answers = a; front = b.front; rest = b.rest; whole = b.whole; new_is = b.written_is }
+
+  prefix-part : (Answered : Answer → Type 0) (answer : Answer) (old new : K) → Answered answer → AddsPart written room faults old new answer.out → Prefix Answered (written old) (written new)
+  prefix-part Answered answer old new a p = record { answer = answer; answers = a; front = p.front; rest = p.rest; whole = p.whole; new_is = p.adds.written_is }
+
+  whole-adds : (told : Told) (answer : Answer) (old new : K) (st : Status) → FileAnswers told answer → answer.status ≡ st → Adds written room faults old new answer.out → Whole (FileAnswers told) (written old) (written new) st
+  whole-adds told answer old new st f e a = record { out = answer.out; answers = subst (λ (s : Status). FileAnswers told (record { out = answer.out; status = s })) e f; new_is = a.written_is }
+
+  module _ {F : Type 0} (told : F → List ℕ → Told) (is_steady : F → Bool) (file_faults : F → List ℕ → ℕ) where
+    meets-whole : (file : List ℕ) (old_files new_files : F) (old new : K) (st : Status) → IsRunStatus st → Whole (FileAnswers (told old_files file)) (written old) (written new) st
+        → Meets told is_steady file_faults written room faults (Run file) old_files new_files old new st
+    meets-whole file old_files new_files old new status.Done i w = record { answer = w; prefix = tt; causes = tt; completeness = λ s f. tt; files = tt }
+    meets-whole file old_files new_files old new status.Fault i w = record { answer = w; prefix = tt; causes = tt; completeness = λ s f. tt; files = tt }
+    meets-whole file old_files new_files old new status.Refused i w = record { answer = w; prefix = tt; causes = tt; completeness = λ s f. tt; files = tt }
+    meets-whole file old_files new_files old new status.Usage i w = absurd i
+    meets-whole file old_files new_files old new status.Memory i w = absurd i
+    meets-whole file old_files new_files old new status.ReadFault i w = absurd i
+    meets-whole file old_files new_files old new status.WriteFault i w = absurd i
+    meets-whole file old_files new_files old new status.Spent i w = absurd i
+    meets-whole file old_files new_files old new status.BadImage i w = absurd i
+    meets-whole file old_files new_files old new status.InputTooLong i w = absurd i
+
+    no_room-fits : (t : Told) (answer : Answer) (old new : K) → FileAnswers t answer → Breaks written room faults old new answer.out → FileFits t (room old) → ⊥
+    no_room-fits Untold answer old new f b fits = fits
+    no_room-fits Missing answer old new f b fits = fits
+    no_room-fits (Kept source) answer old new f b fits = b.no_room (subst (λ (a : Answer). length a.out ≤ room old) (sym f) fits)
+
+    meets-answer : (file : List ℕ) (answer : Answer) (old_files new_files : F) (old new : K) (given : Result Status Halted) → FileAnswers (told old_files file) answer → IsRunStatus answer.status
+        → Gives written room faults answer old new given → Meets told is_steady file_faults written room faults (Run file) old_files new_files old new (status_of given)
+    meets-answer file answer old_files new_files old new (Ok st) f i g =
+        meets-whole file old_files new_files old new st (subst (λ (s : Status). IsRunStatus s) g.0 i) (whole-adds (told old_files file) answer old new st f g.0 g.1)
+    meets-answer file answer old_files new_files old new (Err halted.Memory) f i g = record {
+      answer = tt; prefix = prefix-part (FileAnswers (told old_files file)) answer old new f g; causes = tt; completeness = λ s fits. tt; files = tt;
+    }
+    meets-answer file answer old_files new_files old new (Err halted.WriteFault) f i g = record {
+      answer = tt;
+      prefix = prefix-breaks (FileAnswers (told old_files file)) answer old new f g;
+      causes = g.rose;
+      completeness = λ s fits. no_room-fits (told old_files file) answer old new f g fits;
+      files = tt;
+    }
+
+    -- what was fetched is answered
+    pub meets-fetched : (file : List ℕ) (given : Fetched) (old_files new_files : F) (old new : K) (result : Result Status Halted) → Fetches (told old_files file) 1048576 (Ok given)
+        → Gives written room faults (fetched_answer given) old new result → Meets told is_steady file_faults written room faults (Run file) old_files new_files old new (status_of result)
+    meets-fetched file given old_files new_files old new result h g =
+        meets-answer file (fetched_answer given) old_files new_files old new result (answers-fetched (told old_files file) given h) (fetched_answer-status given) g
+
+    nothing-written : (t : Told) (old : K) → Prefix (FileAnswers t) (written old) (written old)
+    nothing-written t old = let a = some_answer t in record { answer = a.answer; answers = a.answers; front = []; rest = a.answer.out; whole = refl; new_is = added-nil (written old) }
+
+    fits-kept : (t : Told) (n : ℕ) → FileFits t n → IsKept t
+    fits-kept Untold n h = h
+    fits-kept Missing n h = h
+    fits-kept (Kept source) n h = tt
+
+    -- a failed fetch
+    pub meets-failed : (file : List ℕ) (old_files new_files : F) (old : K) → Rose (file_faults old_files file) (file_faults new_files file)
+        → (is_steady old_files ≡ true → IsKept (told old_files file) → FetchIsNoFailure (Err error.Failed))
+        → Meets told is_steady file_faults written room faults (Run file) old_files new_files old old status.ReadFault
+    meets-failed file old_files new_files old rose steady = record {
+      answer = tt; prefix = nothing-written (told old_files file) old; causes = rose;
+      completeness = λ s fits. steady s (fits-kept (told old_files file) (room old) fits); files = tt;
+    }
+
+    -- a fetch for which memory is wanting
+    pub meets-wanting : (file : List ℕ) (old_files new_files : F) (old : K) → Meets told is_steady file_faults written room faults (Run file) old_files new_files old old status.Memory
+    meets-wanting file old_files new_files old = record { answer = tt; prefix = nothing-written (told old_files file) old; causes = tt; completeness = λ s fits. tt; files = tt }
+
+pub ruleset run_laws = (meets-fetched, meets-failed, meets-wanting)

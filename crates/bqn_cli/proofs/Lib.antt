@@ -1,0 +1,4 @@
+pub mod LineBytes
+pub mod CommandWords
+pub mod Ended
+pub mod Commands

@@ -1,0 +1,11 @@
+-- What stands behind the name of a refusal.
+use Rattle.std.specs.Prelude.{ℕ, List, [], ◌++◌, codes, decimal}
+use Rattle.bqn_base.specs.Printed.{place_text}
+use Rattle.bqn_cli.specs.declared.lines.Where.{Where}
+use Rattle.bqn_cli.specs.declared.lines.Where.TheVariants.{Nowhere, Byte, Place}
+
+-- nothing, the bytes before it, or a line and a column
+abbrev pub where_text : Where → List ℕ
+where_text Nowhere = []
+where_text (Byte at) = codes " at byte " ++ decimal at
+where_text (Place place) = place_text place

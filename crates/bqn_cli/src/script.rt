@@ -1,0 +1,77 @@
+//! A source as it is run: the bytes that are written, and the status.
+
+ghost use Rattle.std.specs.Prelude.{◌≡◌, IsSome, MatchResult, encode_utf8_all};
+ghost use Rattle.bqn_io.specs.Writing.{Adds, Breaks};
+ghost use Rattle.bqn_machine.specs.Execution.{executed};
+ghost use Rattle.bqn_cli.specs.Answer.{default_steps, faulted, refused, source_answer};
+ghost use Rattle.bqn_cli.specs.Writing.{Gives, GivesRun};
+
+use crate::halted::Halted;
+use crate::lines::{error_line, refusal_line};
+use bqn_base::{Fault, Refusal, Status};
+use bqn_io::{Failed, Sink};
+use bqn_machine::{CompileError, End, Instr, compile, run_code};
+use std::alloc::Global;
+
+/// The steps that a run has where none are asked for.
+const DEFAULT_STEPS: u64 = 1_000_000;
+
+/// Adds a line at once.
+pub(crate) fn put_line<K: Sink>(line: &[u8], out: &mut K) -> Result<(), Failed>
+    ensures { MatchResult result (λ _. Adds K.written K.room K.faults out.old out.new line.now) (λ _. Breaks K.written K.room K.faults out.old out.new line.now) }
+{
+    out.put(line)
+}
+
+/// Writes the line of a refusal.
+pub(crate) fn refuse<K: Sink>(alloc: Global, refusal: Refusal, out: &mut K) -> Result<Status, Halted>
+    ensures { Gives K.written K.room K.faults (refused refusal) out.old out.new result }
+{
+    let Ok(line) = refusal_line(alloc, &refusal) else {
+        return Err(Halted::Memory);
+    };
+    match put_line(&line, out) {
+        Ok(()) => Ok(Status::Refused),
+        Err(Failed) => Err(Halted::WriteFault),
+    }
+}
+
+/// Writes the line of an uncaught fault.
+fn report<K: Sink>(alloc: Global, fault: &Fault, out: &mut K) -> Result<Status, Halted>
+    ensures { Gives K.written K.room K.faults (faulted fault.now) out.old out.new result }
+{
+    let Ok(line) = error_line(alloc, fault) else {
+        return Err(Halted::Memory);
+    };
+    match put_line(&line, out) {
+        Ok(()) => Ok(Status::Fault),
+        Err(Failed) => Err(Halted::WriteFault),
+    }
+}
+
+/// Runs code that never misses an operand.
+#[tactic(auto, using(crate::proofs::Ended::run_laws))]
+fn run<K: Sink>(alloc: Global, code: &[Instr], out: &mut K) -> Result<Status, Halted>
+    requires { IsSome (executed code.now default_steps) }
+    ensures { GivesRun K.written K.room K.faults (executed code.now default_steps) out.old out.new result }
+{
+    match run_code(alloc, code, DEFAULT_STEPS, out) {
+        End::Done => Ok(Status::Done),
+        End::Spent => Ok(Status::Spent),
+        End::Memory => Err(Halted::Memory),
+        End::WriteFault => Err(Halted::WriteFault),
+        End::Faulted(fault) => report(alloc, &fault, out),
+    }
+}
+
+/// Compiles and runs a source.
+#[tactic(auto, using(crate::proofs::Ended::source_laws))]
+pub(crate) fn run_source<K: Sink>(alloc: Global, source: &[u8], out: &mut K) -> Result<Status, Halted>
+    ensures { Gives K.written K.room K.faults (source_answer source.now) out.old out.new result }
+{
+    match compile(alloc, source) {
+        Ok(code) => run(alloc, &code, out),
+        Err(CompileError::NotYet) => refuse(alloc, Refusal::NotYet, out),
+        Err(CompileError::Memory) => Err(Halted::Memory),
+    }
+}
