@@ -33,8 +33,8 @@ fn main(rt: HostRuntime) -> ExitCode {
         return ExitCode::from(NO_WORDS);
     };
     let mut files = DiskFiles::new(rt);
-    let mut input = StdSource::new(io::stdin());
-    let mut output = StdSink::new(io::stdout());
+    let mut input = StdSource::new(rt.stdin());
+    let mut output = StdSink::new(rt.stdout());
     let status = command::command(rt.alloc(), &words, &mut files, &mut input, &mut output);
     ExitCode::from(status as u8)
 }
