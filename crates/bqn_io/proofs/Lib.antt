@@ -1,3 +1,4 @@
 pub mod Moved
 pub mod Shelves
 pub mod Streams
+mod Samples
