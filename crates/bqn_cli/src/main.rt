@@ -5,15 +5,13 @@ mod command;
 mod halted;
 mod lines;
 mod script;
-mod words;
-
 #[cfg(test)]
 mod tests;
-
-pub use command::command as run_command;
+mod words;
 
 use bqn_base::Status;
 use bqn_io::{DiskFiles, StdSink, StdSource};
+pub use command::command as run_command;
 use std::io;
 use std::process::ExitCode;
 

@@ -14,7 +14,12 @@ fn words_of(alloc: Global, line: &str) -> Result<Vec<String>, AllocError> {
 }
 
 /// The status of a command line where the file `f` has this source, and what it wrote.
-fn ran(rt: &HostRuntime, line: &str, source: &[u8], failing: &[u64]) -> Result<(Status, Vec<u8>), Fail> {
+fn ran(
+    rt: &HostRuntime,
+    line: &str,
+    source: &[u8],
+    failing: &[u64],
+) -> Result<(Status, Vec<u8>), Fail> {
     let alloc = rt.alloc();
     let words = words_of(alloc, line)?;
     let file = (Text::new(alloc, &['f'])?, source.to_vec(alloc)?);
@@ -31,13 +36,25 @@ fn scripts(rt: HostRuntime) -> Result<(), Fail> {
     for (source, written, status) in [
         ("", "", Status::Done),
         ("•Show 2+3", "5\n", Status::Done),
-        ("•Show 9223372036854775807+1", "Error: Overflow\n", Status::Fault),
+        (
+            "•Show 9223372036854775807+1",
+            "Error: Overflow\n",
+            Status::Fault,
+        ),
         ("•Show 10-2-3", "11\n", Status::Done),
         ("1 •Show 2", "Error: Domain\n", Status::Fault),
         ("•Show (", not_yet, Status::Refused),
         ("•Show 7÷2", not_yet, Status::Refused),
-        ("•Show 1,•Show ×-7\n⋄•Show\t¯2×3,,", "1\n¯1\n¯6\n", Status::Done),
-        ("•Show ¯9223372036854775808⋄-¯9223372036854775808", "¯9223372036854775808\nError: Overflow\n", Status::Fault),
+        (
+            "•Show 1,•Show ×-7\n⋄•Show\t¯2×3,,",
+            "1\n¯1\n¯6\n",
+            Status::Done,
+        ),
+        (
+            "•Show ¯9223372036854775808⋄-¯9223372036854775808",
+            "¯9223372036854775808\nError: Overflow\n",
+            Status::Fault,
+        ),
         ("•Show ¯0\n•Show ×0", "0\n0\n", Status::Done),
         ("•Show 9223372036854775808", not_yet, Status::Refused),
         ("¯", not_yet, Status::Refused),
@@ -84,7 +101,11 @@ fn command_lines(rt: HostRuntime) -> Result<(), Fail> {
     ] {
         let (ended, bytes) = ran(&rt, line, b"", &[])?;
         assert_eq!(rt; ended, status, "{line}");
-        assert_eq!(rt; bytes.starts_with(b"Usage: run [--steps N] FILE"), status == Status::Usage, "{line}");
+        assert_eq!(rt;
+            bytes.starts_with(b"Usage: run [--steps N] FILE"),
+            status == Status::Usage,
+            "{line}"
+        );
     }
     Ok(())
 }
