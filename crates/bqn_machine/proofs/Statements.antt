@@ -3,7 +3,7 @@ use Rattle.std.proofs.Common.{◌≡◌, ℕ, List, [], Bool, true, false, Optio
 use Rattle.std.specs.Prelude.{if◌then◌else◌}
 use Rattle.std.specs.Option.{option_map, option_and_then}
 use Rattle.std.specs.Result.{result_ok}
-use Rattle.bqn_syntax.specs.declared.token.Token.{Token}
+use Rattle.bqn_syntax.specs.declared.sign.Sign.{Sign}
 use Rattle.bqn_syntax.specs.declared.tree.Expr.{Expr}
 use Rattle.bqn_syntax.specs.declared.tree.Tree.{Tree}
 use Rattle.bqn_syntax.specs.Text.{text_of}
@@ -38,15 +38,15 @@ tree-text : (bytes text : List ℕ) → text_in bytes ≡ Some text → tree_of 
 tree-text bytes text h = tree_of-text bytes ∙ ap (λ (t : Option (List ℕ)). option_and_then tree_of_text t) h ∙ tree_of_text-tokens text
 
 pub tree-no_tokens : (bytes text : List ℕ) → text_in bytes ≡ Some text → tokens_in text ≡ None → tree_of bytes ≡ None
-tree-no_tokens bytes text h k = tree-text bytes text h ∙ ap (λ (ts : Option (List Token)). option_and_then (λ x. tree_in (statements_of [] x)) ts) k
+tree-no_tokens bytes text h k = tree-text bytes text h ∙ ap (λ (ts : Option (List Sign)). option_and_then (λ x. tree_in (statements_of [] x)) ts) k
 
-tree-tokens : (bytes text : List ℕ) (ts : List Token) → text_in bytes ≡ Some text → tokens_in text ≡ Some ts → tree_of bytes ≡ tree_in (statements_of [] ts)
-tree-tokens bytes text ts h k = tree-text bytes text h ∙ ap (λ (x : Option (List Token)). option_and_then (λ y. tree_in (statements_of [] y)) x) k
+tree-tokens : (bytes text : List ℕ) (ts : List Sign) → text_in bytes ≡ Some text → tokens_in text ≡ Some ts → tree_of bytes ≡ tree_in (statements_of [] ts)
+tree-tokens bytes text ts h k = tree-text bytes text h ∙ ap (λ (x : Option (List Sign)). option_and_then (λ y. tree_in (statements_of [] y)) x) k
 
-pub tree-no_statements : (bytes text : List ℕ) (ts : List Token) → text_in bytes ≡ Some text → tokens_in text ≡ Some ts → statements_of [] ts ≡ None → tree_of bytes ≡ None
+pub tree-no_statements : (bytes text : List ℕ) (ts : List Sign) → text_in bytes ≡ Some text → tokens_in text ≡ Some ts → statements_of [] ts ≡ None → tree_of bytes ≡ None
 tree-no_statements bytes text ts h k s = tree-tokens bytes text ts h k ∙ ap (λ (x : Option (List Expr)). tree_in x) s
 
-pub tree-statements : (bytes text : List ℕ) (ts : List Token) (es : List Expr) → text_in bytes ≡ Some text → tokens_in text ≡ Some ts → statements_of [] ts ≡ Some es → tree_of bytes ≡ Some (record { statements = es })
+pub tree-statements : (bytes text : List ℕ) (ts : List Sign) (es : List Expr) → text_in bytes ≡ Some text → tokens_in text ≡ Some ts → statements_of [] ts ≡ Some es → tree_of bytes ≡ Some (record { statements = es })
 tree-statements bytes text ts es h k s = tree-tokens bytes text ts h k ∙ ap (λ (x : Option (List Expr)). tree_in x) s
 
 pub ruleset tree_laws = (tree-no_text, tree-no_tokens, tree-no_statements, tree-statements)

@@ -4,7 +4,7 @@ use Rattle.std.proofs.lemmas.List.{append-nil}
 use Rattle.std.specs.Option.{option_and_then}
 use Rattle.bqn_syntax.specs.declared.progress.Progress.{Progress}
 use Rattle.bqn_syntax.specs.declared.progress.Progress.TheVariants.{Start}
-use Rattle.bqn_syntax.specs.declared.token.Token.{Token}
+use Rattle.bqn_syntax.specs.declared.sign.Sign.{Sign}
 use Rattle.bqn_syntax.specs.Table.{next, is_final}
 use Rattle.bqn_syntax.specs.Cut.{longest, one_more, with_piece, pieces_behind, pieces_of}
 use Rattle.bqn_syntax.specs.Form.{token_of, with_token, tokens_of}
@@ -67,7 +67,7 @@ pieces_of-stuck : (text : List ℕ) → 1 ≤ length text → longest Start text
 pieces_of-stuck [] le e = absurd (omega arith)
 pieces_of-stuck (c ∷ cs) le e = pieces_of-cons c cs ∙ ap (λ (r : Option ℕ). piece_if r c cs) e
 
-with_token-none : (t : Option (Option Token)) → with_token t None ≡ None
+with_token-none : (t : Option (Option Sign)) → with_token t None ≡ None
 with_token-none None = refl
 with_token-none (Some None) = refl
 with_token-none (Some (Some t)) = refl
@@ -79,22 +79,22 @@ tokens_of-piece front (Some ps) = refl
 tokens_in-piece : (text : List ℕ) (count : ℕ) → longest Start text ≡ Some count → tokens_in text ≡ with_token (token_of (take count text)) (tokens_in (drop count text))
 tokens_in-piece text count e = ap (λ (ps : Option (List (List ℕ))). option_and_then tokens_of ps) (pieces_of-piece text count e) ∙ tokens_of-piece (take count text) (pieces_of (drop count text))
 
-pub tokens-blank : (ts : List Token) (rest : List ℕ) (count : ℕ) → longest Start rest ≡ Some count → token_of (take count rest) ≡ Some None → behind ts (tokens_in rest) ≡ behind ts (tokens_in (drop count rest))
-tokens-blank ts rest count e k = ap (λ (x : Option (List Token)). behind ts x) (tokens_in-piece rest count e ∙ ap (λ (t : Option (Option Token)). with_token t (tokens_in (drop count rest))) k)
+pub tokens-blank : (ts : List Sign) (rest : List ℕ) (count : ℕ) → longest Start rest ≡ Some count → token_of (take count rest) ≡ Some None → behind ts (tokens_in rest) ≡ behind ts (tokens_in (drop count rest))
+tokens-blank ts rest count e k = ap (λ (x : Option (List Sign)). behind ts x) (tokens_in-piece rest count e ∙ ap (λ (t : Option (Option Sign)). with_token t (tokens_in (drop count rest))) k)
 
-pub tokens-token : (ts : List Token) (rest : List ℕ) (count : ℕ) (t : Token) → longest Start rest ≡ Some count → token_of (take count rest) ≡ Some (Some t) → behind ts (tokens_in rest) ≡ behind (ts ++ t ∷ []) (tokens_in (drop count rest))
+pub tokens-token : (ts : List Sign) (rest : List ℕ) (count : ℕ) (t : Sign) → longest Start rest ≡ Some count → token_of (take count rest) ≡ Some (Some t) → behind ts (tokens_in rest) ≡ behind (ts ++ t ∷ []) (tokens_in (drop count rest))
 tokens-token ts rest count t e k =
-    ap (λ (x : Option (List Token)). behind ts x) (tokens_in-piece rest count e ∙ ap (λ (s : Option (Option Token)). with_token s (tokens_in (drop count rest))) k)
+    ap (λ (x : Option (List Sign)). behind ts x) (tokens_in-piece rest count e ∙ ap (λ (s : Option (Option Sign)). with_token s (tokens_in (drop count rest))) k)
     ∙ behind-cons ts t (tokens_in (drop count rest))
 
-pub tokens-other : (ts : List Token) (rest : List ℕ) (count : ℕ) → longest Start rest ≡ Some count → token_of (take count rest) ≡ None → behind ts (tokens_in rest) ≡ None
-tokens-other ts rest count e k = ap (λ (x : Option (List Token)). behind ts x) (tokens_in-piece rest count e ∙ ap (λ (t : Option (Option Token)). with_token t (tokens_in (drop count rest))) k)
+pub tokens-other : (ts : List Sign) (rest : List ℕ) (count : ℕ) → longest Start rest ≡ Some count → token_of (take count rest) ≡ None → behind ts (tokens_in rest) ≡ None
+tokens-other ts rest count e k = ap (λ (x : Option (List Sign)). behind ts x) (tokens_in-piece rest count e ∙ ap (λ (t : Option (Option Sign)). with_token t (tokens_in (drop count rest))) k)
 
-pub tokens-stuck : (ts : List Token) (rest : List ℕ) → 1 ≤ length rest → longest Start rest ≡ None → behind ts (tokens_in rest) ≡ None
+pub tokens-stuck : (ts : List Sign) (rest : List ℕ) → 1 ≤ length rest → longest Start rest ≡ None → behind ts (tokens_in rest) ≡ None
 tokens-stuck ts rest le e = ap (λ (ps : Option (List (List ℕ))). behind ts (option_and_then tokens_of ps)) (pieces_of-stuck rest le e)
 
-pub tokens-end : (ts : List Token) (rest : List ℕ) → length rest ≡ 0 → behind ts (tokens_in rest) ≡ Some ts
-tokens-end ts [] e = ap (λ (x : List Token). Some x) (append-nil ts)
+pub tokens-end : (ts : List Sign) (rest : List ℕ) → length rest ≡ 0 → behind ts (tokens_in rest) ≡ Some ts
+tokens-end ts [] e = ap (λ (x : List Sign). Some x) (append-nil ts)
 tokens-end ts (c ∷ cs) e = absurd (omega arith)
 
 pub ruleset token_laws = (longest-some, longest-inside, behind-nil, tokens-blank, tokens-token, tokens-other, tokens-stuck, tokens-end)

@@ -3,8 +3,8 @@ use Rattle.std.specs.Prelude.{◌≡◌, ℕ, ◌^◌, nat_lt, ◌&&◌, if◌th
 use Rattle.std.specs.List.{list_all}
 use Rattle.std.specs.Option.{option_and_then}
 use Rattle.std.specs.Result.{result_ok}
-use Rattle.bqn_syntax.specs.declared.token.Token.{Token}
-use Rattle.bqn_syntax.specs.declared.token.Token.TheVariants as token
+use Rattle.bqn_syntax.specs.declared.sign.Sign.{Sign}
+use Rattle.bqn_syntax.specs.declared.sign.Sign.TheVariants as sign
 use Rattle.bqn_syntax.specs.Text.{text_of}
 use Rattle.bqn_syntax.specs.Table.{is_digit}
 use Rattle.bqn_syntax.specs.Cut.{pieces_of}
@@ -43,15 +43,15 @@ abbrev pub text_in : List ℕ → Option (List ℕ)
 text_in bytes = if is_short bytes then result_ok (text_of bytes) else None
 
 -- the tokens of a text of the form, or none
-abbrev pub tokens_in : List ℕ → Option (List Token)
+abbrev pub tokens_in : List ℕ → Option (List Sign)
 tokens_in text = option_and_then tokens_of (pieces_of text)
 
 -- the number in front of a row that is read leftward, if one stands there
-abbrev pub left_of : List Token → Option ℤ
-left_of (token.Number w ∷ row) = Some w
+abbrev pub left_of : List Sign → Option ℤ
+left_of (sign.Number w ∷ row) = Some w
 left_of row = None
 
 -- the row behind that number
-abbrev pub behind_left : List Token → List Token
-behind_left (token.Number w ∷ row) = row
+abbrev pub behind_left : List Sign → List Sign
+behind_left (sign.Number w ∷ row) = row
 behind_left row = row

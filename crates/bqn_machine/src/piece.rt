@@ -3,7 +3,7 @@ ghost use Rattle.bqn_syntax.specs.Form.{number_of, single_of, token_of, within_6
 ghost use Rattle.bqn_machine.specs.Reading.{small_natural};
 
 use crate::extent::is_a_digit;
-use bqn_syntax::{Function, Token};
+use bqn_syntax::{Function, Sign};
 
 const SHOW: [char; 4] = ['S', 'h', 'o', 'w'];
 
@@ -46,31 +46,31 @@ fn number(piece: &[char]) -> Option<i64>
     }
 }
 
-fn single(c: char) -> Option<Option<Token>>
+fn single(c: char) -> Option<Option<Sign>>
     ensures { result ≡ single_of c }
 {
     match c {
         ' ' | '\t' => Some(None),
-        '\n' | '⋄' | ',' => Some(Some(Token::Separator)),
-        '+' => Some(Some(Token::Function(Function::Plus))),
-        '-' => Some(Some(Token::Function(Function::Minus))),
-        '×' => Some(Some(Token::Function(Function::Times))),
+        '\n' | '⋄' | ',' => Some(Some(Sign::Separator)),
+        '+' => Some(Some(Sign::Function(Function::Plus))),
+        '-' => Some(Some(Sign::Function(Function::Minus))),
+        '×' => Some(Some(Sign::Function(Function::Times))),
         _ => None,
     }
 }
 
 /// What a piece is: nothing for a blank, or a token; none where it is not of the form.
-pub(crate) fn token_in(piece: &[char]) -> Option<Option<Token>>
+pub(crate) fn token_in(piece: &[char]) -> Option<Option<Sign>>
     ensures { result ≡ token_of piece.now }
 {
     let [first, name @ ..] = piece else {
         return None;
     };
     if is_a_digit(*first) || *first == '¯' {
-        return Some(Some(Token::Number(number(piece)?)));
+        return Some(Some(Sign::Number(number(piece)?)));
     }
     if *first == '•' {
-        return (name == SHOW.as_slice()).then_some(Some(Token::Function(Function::Show)));
+        return (name == SHOW.as_slice()).then_some(Some(Sign::Function(Function::Show)));
     }
     single(*first)
 }

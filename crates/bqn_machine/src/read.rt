@@ -7,7 +7,7 @@ use crate::error::CompileError;
 use crate::extent::longest_piece;
 use crate::piece::token_in;
 use bqn_base::Row;
-use bqn_syntax::{Expr, Step, Token, Tree};
+use bqn_syntax::{Expr, Step, Sign, Tree};
 use std::alloc::{AllocError, Global};
 
 fn is_short_source(source: &[u8]) -> bool
@@ -38,7 +38,7 @@ fn characters(alloc: Global, source: &[u8]) -> Result<Vec<char>, CompileError>
 
 /// The tokens of a text.
 #[tactic(auto, using(crate::proofs::Tokens::token_laws))]
-fn tokens(alloc: Global, text: &[char]) -> Result<Vec<Token>, CompileError>
+fn tokens(alloc: Global, text: &[char]) -> Result<Vec<Sign>, CompileError>
     ensures { ReadsAs (λ tokens. tokens.items) (tokens_in text.now) result }
 {
     let mut tokens = Vec::new(alloc);
@@ -59,18 +59,18 @@ fn tokens(alloc: Global, text: &[char]) -> Result<Vec<Token>, CompileError>
 }
 
 #[tactic(auto, using(crate::proofs::Rows::row_laws))]
-fn last_number(row: &[Token]) -> Option<i64>
+fn last_number(row: &[Sign]) -> Option<i64>
     ensures { result ≡ left_of (reverse row.now) }
 {
     match row.last().copied() {
-        Some(Token::Number(number)) => Some(number),
+        Some(Sign::Number(number)) => Some(number),
         _ => None,
     }
 }
 
 /// Takes the number that ends a row, if one does.
 #[tactic(auto, using(crate::proofs::Rows::row_laws))]
-fn take_left(row: &mut Vec<Token>) -> Option<i64>
+fn take_left(row: &mut Vec<Sign>) -> Option<i64>
     ensures left { result ≡ left_of (reverse row.old.items) }
     ensures rest { reverse row.new.items ≡ behind_left (reverse row.old.items) }
     ensures shorter { vec_len row.new ≤ vec_len row.old }
@@ -82,13 +82,13 @@ fn take_left(row: &mut Vec<Token>) -> Option<i64>
 
 /// The applications of a row, which is read leftward and emptied.
 #[tactic(auto, using(crate::proofs::Rows::step_laws))]
-fn steps(alloc: Global, row: &mut Vec<Token>) -> Result<Vec<Step>, CompileError>
+fn steps(alloc: Global, row: &mut Vec<Sign>) -> Result<Vec<Step>, CompileError>
     ensures steps { ReadsAs (λ steps. steps.items) (steps_of (reverse row.old.items)) result }
     ensures emptied { OnOk result (row.new.items ≡ []) }
 {
     let mut steps = Vec::new(alloc);
     'row: while let Some(token) = row.pop() {
-        let Token::Function(function) = token else {
+        let Sign::Function(function) = token else {
             return Err(CompileError::NotYet);
         };
         let left = take_left(row);
@@ -99,11 +99,11 @@ fn steps(alloc: Global, row: &mut Vec<Token>) -> Result<Vec<Step>, CompileError>
 
 /// The value of a row, which is emptied.
 #[tactic(auto, using(crate::proofs::Rows::expr_laws))]
-fn expr(alloc: Global, row: &mut Vec<Token>) -> Result<Expr, CompileError>
+fn expr(alloc: Global, row: &mut Vec<Sign>) -> Result<Expr, CompileError>
     ensures value { Reads (expr_of (reverse row.old.items)) result }
     ensures emptied { OnOk result (row.new.items ≡ []) }
 {
-    let Some(Token::Number(last)) = row.pop() else {
+    let Some(Sign::Number(last)) = row.pop() else {
         return Err(CompileError::NotYet);
     };
     let steps = steps(alloc, row)?;
@@ -117,7 +117,7 @@ fn expr(alloc: Global, row: &mut Vec<Token>) -> Result<Expr, CompileError>
 #[tactic(auto, using(crate::proofs::Rows::end_laws))]
 fn end_row(
     alloc: Global,
-    row: &mut Vec<Token>,
+    row: &mut Vec<Sign>,
     statements: &mut Vec<Expr>,
 ) -> Result<(), CompileError>
     ensures added { ReadsAs (λ done. statements.new.items) (behind statements.old.items (with_row (reverse row.old.items) (Some []))) result }
@@ -133,14 +133,14 @@ fn end_row(
 
 /// The statements of a list of tokens.
 #[tactic(auto, using(crate::proofs::Statements::statement_laws))]
-fn statements(alloc: Global, tokens: &[Token]) -> Result<Vec<Expr>, CompileError>
+fn statements(alloc: Global, tokens: &[Sign]) -> Result<Vec<Expr>, CompileError>
     ensures { ReadsAs (λ statements. statements.items) (statements_of [] tokens.now) result }
 {
     let mut statements = Vec::new(alloc);
     let mut row = Vec::new(alloc);
     'tokens: for token in tokens {
         match *token {
-            Token::Separator => end_row(alloc, &mut row, &mut statements)?,
+            Sign::Separator => end_row(alloc, &mut row, &mut statements)?,
             token => row.push(token)?,
         }
     }

@@ -3,10 +3,12 @@
 
 mod laws;
 mod progress;
+mod sign;
 mod token;
 mod tree;
 
 pub use laws::cut_is_unique;
 pub use progress::Progress;
-pub use token::Token;
+pub use sign::Sign;
+pub use token::{Kind, Special, Token};
 pub use tree::{Expr, Function, Step, Tree};
