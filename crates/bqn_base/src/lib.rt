@@ -8,6 +8,8 @@ mod refusal;
 mod role;
 mod row;
 mod status;
+#[cfg(test)]
+mod tests;
 mod text;
 
 pub use fault::Fault;

@@ -34,7 +34,7 @@ impl<T> Row<T> {
         self.items.as_slice()
     }
 
-    /// The elements, in order, to be changed.
+    /// The elements, in order, as a `Vec`.
     pub fn into_vec(self) -> Vec<T>
         ensures { result.items ≡ self }
     {

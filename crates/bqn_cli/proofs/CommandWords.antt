@@ -1,7 +1,7 @@
 -- The two words of a `run` command.
-use Rattle.std.proofs.Common.{◌≡◌, ◌<◌, ℕ, zero, suc, Bool, true, false, List, [], ◌∷◌, map, length, get_or, refl, sym, ap, ◌∙◌, arith}
+use Rattle.std.proofs.Common.{◌≡◌, ℕ, Bool, true, false, List, [], ◌∷◌, map, length, get_or, refl, sym, ap, ◌∙◌, arith}
 use Rattle.std.specs.Prelude.{codes, not, ◌&&◌, if◌then◌else◌}
-use Rattle.bqn_cli.specs.Command.{Command, Run, NoCommand, is_word, command_of}
+use Rattle.bqn_cli.specs.Command.{Run, NoCommand, is_word, command_of}
 
 pub command_of-not_two : (words : List (List ℕ)) → (length words ≡ 2 → ⊥) → command_of words ≡ NoCommand
 command_of-not_two [] h = refl

@@ -1,5 +1,5 @@
 -- A `run` command, from what the fetch gave to what is promised.
-use Rattle.std.proofs.Common.{◌≡◌, ◌≤◌, ◌<◌, ◌^◌, ℕ, zero, suc, Bool, true, false, List, [], ◌∷◌, ◌++◌, length, Option, Some, None, Result, Ok, Err, refl, sym, ap, ◌∙◌, subst, arith}
+use Rattle.std.proofs.Common.{◌≡◌, ◌≤◌, ◌<◌, ℕ, Bool, true, false, List, [], ◌∷◌, length, Option, Some, None, Result, Ok, Err, refl, sym, ap, subst, arith}
 use Rattle.std.specs.Prelude.{not, ◌&&◌, nat_le}
 use Rattle.std.specs.Option.{option_and_then}
 use Rattle.std.specs.Result.{result_ok}
@@ -10,9 +10,8 @@ use Rattle.bqn_base.specs.declared.status.Status.{Status}
 use Rattle.bqn_base.specs.declared.status.Status.TheVariants as status
 use Rattle.bqn_io.specs.declared.files.Fetched.{Fetched}
 use Rattle.bqn_io.specs.declared.files.Fetched.TheVariants as fetched
-use Rattle.bqn_io.specs.declared.files.FetchError.{FetchError}
 use Rattle.bqn_io.specs.declared.files.FetchError.TheVariants as error
-use Rattle.bqn_io.specs.Devices.{added, Rose, Told, Untold, Missing, Kept, Fetches, IsKept, IsNoFailure as FetchIsNoFailure}
+use Rattle.bqn_io.specs.Devices.{Rose, Told, Untold, Missing, Kept, Fetches, IsKept, IsNoFailure as FetchIsNoFailure}
 use Rattle.bqn_io.specs.Writing.{Adds, AddsPart, Breaks}
 use Rattle.bqn_io.proofs.Writing.{added-nil}
 use Rattle.bqn_syntax.specs.declared.tree.Step.{Step}
@@ -25,9 +24,9 @@ use Rattle.bqn_syntax.specs.Evaluation.{State, Res, Gives as Value, Faults, Spen
 use Rattle.std.specs.Prelude.{ℤ}
 use Rattle.bqn_cli.specs.declared.halted.Halted.{Halted}
 use Rattle.bqn_cli.specs.declared.halted.Halted.TheVariants as halted
-use Rattle.bqn_cli.specs.Command.{Command, Run, NoCommand}
-use Rattle.bqn_cli.specs.Answer.{Answer, AnswersSome, FileAnswers, Answers, source_answer, tree_answer, ended, refused, default_steps}
-use Rattle.bqn_cli.specs.Headline.{Whole, Prefix, IsWhole, IsPrefix, Cause, Fits, FileFits, IsNoFailure, LeavesFiles, Meets}
+use Rattle.bqn_cli.specs.Command.{Run}
+use Rattle.bqn_cli.specs.Answer.{Answer, FileAnswers, source_answer, tree_answer, ended, refused, default_steps}
+use Rattle.bqn_cli.specs.Headline.{Whole, Prefix, FileFits, Meets}
 use Rattle.bqn_cli.specs.Writing.{Gives, fetched_answer, status_of}
 
 -- a source that is too long for any is not of the form
@@ -87,7 +86,7 @@ has_steps-steps : (steps : List Step) (x : ℤ) (s : State) → HasSteps (eval_s
 has_steps-steps [] x s = tt
 has_steps-steps (step ∷ steps) x s =
     has_steps-then (call step.function step.left x s) (eval_steps steps)
-        (has_steps-answered (answer_of step.function step.left x) (wrote s (output_of step.function step.left x))) (λ y t. has_steps-steps steps y t)
+    (has_steps-answered (answer_of step.function step.left x) (wrote s (output_of step.function step.left x))) (λ y t. has_steps-steps steps y t)
 
 has_steps-statements : (es : List Expr) (s : State) → HasSteps (eval_statements es s)
 has_steps-statements [] s = tt
@@ -140,7 +139,11 @@ module _ {K : Type 0} (written : K → Option (List ℕ)) (room faults : K → �
     meets-answer file answer old_files new_files old new (Ok st) f i g =
         meets-whole file old_files new_files old new st (subst (λ (s : Status). IsRunStatus s) g.0 i) (whole-adds (told old_files file) answer old new st f g.0 g.1)
     meets-answer file answer old_files new_files old new (Err halted.Memory) f i g = record {
-      answer = tt; prefix = prefix-part (FileAnswers (told old_files file)) answer old new f g; causes = tt; completeness = λ s fits. tt; files = tt;
+      answer = tt;
+      prefix = prefix-part (FileAnswers (told old_files file)) answer old new f g;
+      causes = tt;
+      completeness = λ s fits. tt;
+      files = tt;
     }
     meets-answer file answer old_files new_files old new (Err halted.WriteFault) f i g = record {
       answer = tt;
@@ -169,8 +172,11 @@ module _ {K : Type 0} (written : K → Option (List ℕ)) (room faults : K → �
         → (is_steady old_files ≡ true → IsKept (told old_files file) → FetchIsNoFailure (Err error.Failed))
         → Meets told is_steady file_faults written room faults (Run file) old_files new_files old old status.ReadFault
     meets-failed file old_files new_files old rose steady = record {
-      answer = tt; prefix = nothing-written (told old_files file) old; causes = rose;
-      completeness = λ s fits. steady s (fits-kept (told old_files file) (room old) fits); files = tt;
+      answer = tt;
+      prefix = nothing-written (told old_files file) old;
+      causes = rose;
+      completeness = λ s fits. steady s (fits-kept (told old_files file) (room old) fits);
+      files = tt;
     }
 
     -- a fetch for which memory is wanting

@@ -1,5 +1,5 @@
 -- How runs end as answers.
-use Rattle.std.proofs.Common.{◌≡◌, ℕ, List, [], ◌∷◌, ◌++◌, Option, Some, None, Result, Ok, Err, refl, sym, ap, ◌∙◌, subst}
+use Rattle.std.proofs.Common.{ℕ, List, [], ◌++◌, Option, Some, None, Result, Ok, Err, refl, sym, subst}
 use Rattle.std.proofs.lemmas.List.{append-nil}
 use Rattle.std.specs.Prelude.{encode_utf8_all, IsSome}
 use Rattle.bqn_base.specs.declared.fault.Fault.{Fault}
@@ -10,20 +10,18 @@ use Rattle.bqn_base.specs.Printed.{error_line}
 use Rattle.bqn_io.specs.Writing.{Adds, AddsPart, Breaks}
 use Rattle.bqn_io.proofs.Writing.{adds-nothing, adds-then, adds-then-part, adds-then-breaks}
 use Rattle.bqn_syntax.specs.declared.tree.Tree.{Tree}
-use Rattle.bqn_syntax.specs.Evaluation.{State, Res, Gives as Value, Faults, Spends, evaluated}
+use Rattle.bqn_syntax.specs.Evaluation.{State, Gives as Value, Faults, Spends}
 use Rattle.bqn_machine.specs.declared.code.Instr.{Instr}
-use Rattle.bqn_machine.specs.declared.end.End.{End}
 use Rattle.bqn_machine.specs.declared.end.End.TheVariants as end
-use Rattle.bqn_machine.specs.declared.error.CompileError.{CompileError}
 use Rattle.bqn_machine.specs.declared.error.CompileError.TheVariants as compile
 use Rattle.bqn_machine.specs.Execution.{Run, executed}
 use Rattle.bqn_machine.specs.Compiling.{Compiles}
-use Rattle.bqn_machine.specs.Running.{written_by, Ends, EndsAs}
+use Rattle.bqn_machine.specs.Running.{EndsAs}
 use Rattle.std.specs.declared.vec.Vec.{Vec}
 use Rattle.std.specs.declared.alloc.Global.{Global}
 use Rattle.bqn_cli.specs.declared.halted.Halted.{Halted}
 use Rattle.bqn_cli.specs.declared.halted.Halted.TheVariants as halted
-use Rattle.bqn_cli.specs.Answer.{Answer, ended, faulted, refused, tree_answer, default_steps}
+use Rattle.bqn_cli.specs.Answer.{ended, faulted, refused, tree_answer, default_steps}
 use Rattle.bqn_cli.specs.Writing.{Gives, GivesRun}
 
 -- code of a source misses no operand
@@ -88,4 +86,5 @@ module _ {K : Type 0} (written : K → Option (List ℕ)) (room faults : K → �
   source-memory tree old = record { front = []; rest = (tree_answer tree).out; whole = refl; adds = adds-nothing written room faults old }
 
 pub ruleset run_laws = (run-done, run-spent, run-memory, run-write_fault, run-faulted)
+
 pub ruleset source_laws = (compiles-some, source-run, source-refused, source-memory)

@@ -2,7 +2,7 @@
 use Rattle.std.specs.Prelude.{◌≡◌, ◌≤◌, ℕ, Bool, true, List, ◌++◌, length, Option}
 use Rattle.bqn_base.specs.declared.status.Status.{Status}
 use Rattle.bqn_base.specs.declared.status.Status.TheVariants as status
-use Rattle.bqn_io.specs.Devices.{added, Rose, Told, Untold, Missing, Kept}
+use Rattle.bqn_io.specs.Devices.{added, Rose, Told, Kept}
 use Rattle.bqn_cli.specs.Command.{Command, Run, NoCommand}
 use Rattle.bqn_cli.specs.Answer.{Answer, Answers, source_answer, usage_answer}
 

@@ -51,7 +51,13 @@ fn run<F: Files, K: Sink>(alloc: Global, file: &str, files: &mut F, output: &mut
 /// Carries out the command that `words` are, and answers the exit status.
 ///
 /// `run FILE` runs the source in a file. All other words are no command: the usage line is written.
-pub fn command<F: Files, S: Source, K: Sink>(alloc: Global, words: &[String], files: &mut F, input: &mut S, output: &mut K) -> Status
+pub fn command<F: Files, S: Source, K: Sink>(
+    alloc: Global,
+    words: &[String],
+    files: &mut F,
+    input: &mut S,
+    output: &mut K,
+) -> Status
     ensures answer { IsWhole (Answers (command_of (map string_bytes words.now)) (F.told files.old)) (K.written output.old) (K.written output.new) result }
     ensures prefix { IsPrefix (Answers (command_of (map string_bytes words.now)) (F.told files.old)) (K.written output.old) (K.written output.new) result }
     ensures causes { Cause (λ file. Rose (F.faults files.old file) (F.faults files.new file)) (Rose (K.faults output.old) (K.faults output.new)) (command_of (map string_bytes words.now)) result }

@@ -5,15 +5,13 @@ mod command;
 mod halted;
 mod lines;
 mod script;
-mod words;
-
 #[cfg(test)]
 mod tests;
-
-pub use command::command as run_command;
+mod words;
 
 use bqn_base::Status;
 use bqn_io::{DiskFiles, StdSink, StdSource};
+pub use command::command as run_command;
 use std::io;
 use std::process::ExitCode;
 
@@ -33,8 +31,8 @@ fn main(rt: HostRuntime) -> ExitCode {
         return ExitCode::from(NO_WORDS);
     };
     let mut files = DiskFiles::new(rt);
-    let mut input = StdSource::new(io::stdin());
-    let mut output = StdSink::new(io::stdout());
+    let mut input = StdSource::new(rt.stdin());
+    let mut output = StdSink::new(rt.stdout());
     let status = command::command(rt.alloc(), &words, &mut files, &mut input, &mut output);
     ExitCode::from(status as u8)
 }

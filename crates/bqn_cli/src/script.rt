@@ -24,7 +24,11 @@ pub(crate) fn put_line<K: Sink>(line: &[u8], out: &mut K) -> Result<(), Failed>
 }
 
 /// Writes the line of a refusal.
-pub(crate) fn refuse<K: Sink>(alloc: Global, refusal: Refusal, out: &mut K) -> Result<Status, Halted>
+pub(crate) fn refuse<K: Sink>(
+    alloc: Global,
+    refusal: Refusal,
+    out: &mut K,
+) -> Result<Status, Halted>
     ensures { Gives K.written K.room K.faults (refused refusal) out.old out.new result }
 {
     let Ok(line) = refusal_line(alloc, &refusal) else {
@@ -66,7 +70,11 @@ fn run<K: Sink>(alloc: Global, code: &[Instr], out: &mut K) -> Result<Status, Ha
 
 /// Compiles and runs a source.
 #[tactic(auto, using(crate::proofs::Ended::source_laws))]
-pub(crate) fn run_source<K: Sink>(alloc: Global, source: &[u8], out: &mut K) -> Result<Status, Halted>
+pub(crate) fn run_source<K: Sink>(
+    alloc: Global,
+    source: &[u8],
+    out: &mut K,
+) -> Result<Status, Halted>
     ensures { Gives K.written K.room K.faults (source_answer source.now) out.old out.new result }
 {
     match compile(alloc, source) {

@@ -1,7 +1,7 @@
 -- How runs of puts go together.
-use Rattle.std.proofs.Common.{◌≡◌, ◌≤◌, ◌-◌, ◌+◌, ℕ, List, [], ◌++◌, length, Option, Some, None, refl, sym, ap, ◌∙◌, append_assoc, length-append, arith}
+use Rattle.std.proofs.Common.{◌≡◌, ◌-◌, ◌+◌, ℕ, List, [], ◌++◌, length, Option, Some, None, refl, sym, ap, ◌∙◌, append_assoc, length-append, arith}
 use Rattle.std.proofs.lemmas.List.{append-nil}
-use Rattle.bqn_io.specs.Devices.{added, Rose}
+use Rattle.bqn_io.specs.Devices.{added}
 use Rattle.bqn_io.specs.Writing.{Adds, AddsPart, Breaks}
 
 pub added-nil : (told : Option (List ℕ)) → told ≡ added told []
@@ -20,10 +20,10 @@ module _ {K : Type 0} (written : K → Option (List ℕ)) (room faults : K → �
   adds-then old mid new x y a b = record {
     written_is = b.written_is ∙ (ap (λ (told : Option (List ℕ)). added told y) a.written_is ∙ added-added (written old) x y);
     room_is = λ le.
-      let both : length (x ++ y) ≡ length x + length y = length-append x y in
-      let first : room mid ≡ room old - length x = a.room_is (omega arith) in
-      let second : room new ≡ room mid - length y = b.room_is (omega arith) in
-      omega arith;
+        let both : length (x ++ y) ≡ length x + length y = length-append x y in
+        let first : room mid ≡ room old - length x = a.room_is (omega arith) in
+        let second : room new ≡ room mid - length y = b.room_is (omega arith) in
+        omega arith;
     faults_are = b.faults_are ∙ a.faults_are;
   }
 
@@ -46,7 +46,7 @@ module _ {K : Type 0} (written : K → Option (List ℕ)) (room faults : K → �
     written_is = b.written_is ∙ (ap (λ (told : Option (List ℕ)). added told b.front) a.written_is ∙ added-added (written old) x b.front);
     rose = rw (← a.faults_are) b.rose;
     no_room = λ le.
-      let all : length ((x ++ y) ++ more) ≡ (length x + length y) + length more = length-append (x ++ y) more ∙ ap (λ (n : ℕ). n + length more) (length-append x y) in
-      let first : room mid ≡ room old - length x = a.room_is (omega arith) in
-      b.no_room (omega arith);
+        let all : length ((x ++ y) ++ more) ≡ (length x + length y) + length more = length-append (x ++ y) more ∙ ap (λ (n : ℕ). n + length more) (length-append x y) in
+        let first : room mid ≡ room old - length x = a.room_is (omega arith) in
+        b.no_room (omega arith);
   }

@@ -27,7 +27,7 @@ fails_next calls = list_any (λ number. nat_eq number (one_more calls.made)) cal
 abbrev pub after_next : Numbered → Numbered
 after_next calls = record { failing = calls.failing; made = one_more calls.made }
 
--- no call is said to fail, and none was made
+-- of these the calls fail, and none was made yet
 abbrev pub numbered : List ℕ → Numbered
 numbered failing = record { failing = failing; made = 0 }
 

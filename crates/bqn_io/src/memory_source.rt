@@ -1,4 +1,4 @@
-ghost use Rattle.std.specs.Prelude.{◌≡◌, ◌<◌, ◌≤◌, max, IsOk, true, false, [], drop, length, Some};
+ghost use Rattle.std.specs.Prelude.{◌≡◌, IsOk, Some, false, max, true};
 ghost use Rattle.bqn_io.specs.States.{is_empty, numbered};
 
 use crate::calls::Calls;

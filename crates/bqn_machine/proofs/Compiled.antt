@@ -1,14 +1,13 @@
 -- Compiling joins reading, the translation and its meaning.
-use Rattle.std.proofs.Common.{◌≡◌, ℕ, Option, Some, None, Ok, Err, refl, sym, ap, ◌∙◌, subst, List}
+use Rattle.std.proofs.Common.{◌≡◌, Option, Some, None, Ok, Err, sym, ap, ◌∙◌, subst, List}
 use Rattle.std.specs.Option.{option_map}
 use Rattle.std.specs.declared.vec.Vec.{Vec}
 use Rattle.std.specs.declared.alloc.Global.{Global}
 use Rattle.bqn_syntax.specs.declared.tree.Tree.{Tree}
-use Rattle.bqn_syntax.specs.Evaluation.{evaluated}
 use Rattle.bqn_machine.specs.declared.code.Instr.{Instr}
 use Rattle.bqn_machine.specs.declared.error.CompileError.{CompileError}
 use Rattle.bqn_machine.specs.declared.error.CompileError.TheVariants.{NotYet, Memory}
-use Rattle.bqn_machine.specs.Execution.{Run, executed}
+use Rattle.bqn_machine.specs.Execution.{executed}
 use Rattle.bqn_machine.specs.Translation.{translation}
 use Rattle.bqn_machine.specs.Reading.{Reads, ReadsAs}
 use Rattle.bqn_machine.specs.Compiling.{Compiles}

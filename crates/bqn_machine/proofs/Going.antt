@@ -5,13 +5,13 @@ use Rattle.std.proofs.lemmas.List.{append-nil}
 use Rattle.bqn_base.specs.declared.fault.Fault.{Fault}
 use Rattle.bqn_io.specs.Writing.{Adds, AddsPart, Breaks}
 use Rattle.bqn_io.proofs.Writing.{adds-nothing, adds-then, adds-then-part, adds-then-breaks}
-use Rattle.bqn_syntax.specs.Evaluation.{State, Res, Gives, Faults, Spends, M, wrote, answered, answer_of, output_of}
+use Rattle.bqn_syntax.specs.Evaluation.{State, Res, Gives, Faults, Spends, wrote, answered, answer_of, output_of}
 use Rattle.bqn_machine.specs.declared.code.Instr.{Instr}
 use Rattle.bqn_machine.specs.declared.code.Instr.TheVariants.{Const, Call1, Call2, Pop}
 use Rattle.bqn_machine.specs.declared.end.End.{End}
 use Rattle.bqn_machine.specs.declared.end.End.TheVariants as end
 use Rattle.bqn_machine.specs.Execution.{Run, on_answer, exec, executed}
-use Rattle.bqn_machine.specs.Running.{Act, pushed, top_act, act, written_by, Acts, Ends, EndsAs}
+use Rattle.bqn_machine.specs.Running.{Act, pushed, act, written_by, Acts, Ends, EndsAs}
 
 -- how a run goes on after an answer
 abbrev after_answer : Result (List ℤ) Fault → List Instr → State → Run

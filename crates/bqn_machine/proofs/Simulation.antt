@@ -1,15 +1,14 @@
 -- The code of a tree does what the tree does.
-use Rattle.std.proofs.Common.{◌≡◌, ℕ, zero, suc, ℤ, List, [], ◌∷◌, ◌++◌, Option, Some, None, Result, Ok, Err, refl, sym, ap, ◌∙◌, append_assoc}
-use Rattle.bqn_base.specs.declared.fault.Fault.{Fault}
+use Rattle.std.proofs.Common.{◌≡◌, ℕ, zero, suc, ℤ, List, [], ◌∷◌, ◌++◌, Option, Some, None, refl, ap, ◌∙◌, append_assoc}
 use Rattle.bqn_syntax.specs.declared.tree.Function.{Function}
 use Rattle.bqn_syntax.specs.declared.tree.Step.{Step}
 use Rattle.bqn_syntax.specs.declared.tree.Expr.{Expr}
 use Rattle.bqn_syntax.specs.declared.tree.Tree.{Tree}
 use Rattle.bqn_syntax.specs.Evaluation.{State, Res, Gives, Faults, Spends, M, then_do, call, eval_steps, eval_expr, eval_statements, evaluated}
 use Rattle.bqn_machine.specs.declared.code.Instr.{Instr}
-use Rattle.bqn_machine.specs.declared.code.Instr.TheVariants.{Const, Call1, Call2, Pop}
+use Rattle.bqn_machine.specs.declared.code.Instr.TheVariants.{Pop}
 use Rattle.bqn_machine.specs.Execution.{Run, on_answer, exec, executed}
-use Rattle.bqn_machine.specs.Translation.{call_code, step_code, steps_code, expr_code, statements_code, translation}
+use Rattle.bqn_machine.specs.Translation.{call_code, step_code, steps_code, statements_code, translation}
 
 on_answer-same : (r : Res ℤ) (go to : ℤ → State → Run) → ((y : ℤ) (s : State) → go y s ≡ to y s) → on_answer r go ≡ on_answer r to
 on_answer-same (Gives y s) go to e = e y s

@@ -1,5 +1,5 @@
 -- One instruction: the stack from its top, and what a call leaves in the sink.
-use Rattle.std.proofs.Common.{◌≡◌, ◌≢◌, ◌≤◌, ◌-◌, ◌+◌, ℕ, ℤ, List, [], ◌∷◌, ◌++◌, reverse, length, Option, Some, None, Result, Ok, Err, refl, sym, ap, ◌∙◌, subst, arith}
+use Rattle.std.proofs.Common.{◌≡◌, ℕ, ℤ, List, [], ◌∷◌, ◌++◌, reverse, Option, Some, Result, Err, sym, ap, ◌∙◌, subst}
 use Rattle.std.proofs.lemmas.List.{append-nil, reverse-append}
 use Rattle.bqn_io.proofs.Writing.{adds-nothing}
 use Rattle.bqn_io.specs.Writing.{Adds, AddsPart}
@@ -28,6 +28,6 @@ module _ {K : Type 0} (written : K → Option (List ℕ)) (room faults : K → �
   pub acts-call_top : (f : Function) (left : Option ℤ) (items rest : List ℤ) (x z : ℤ) (st : List ℤ) (old new : K) (e : End) → items ≡ rest ++ x ∷ [] → z ≡ x → Calls written room faults (answer_of f left z) (output_of f left z) old new (Err e) → Acts written room faults (top_act f left (reverse items)) st old new (Err e)
   acts-call_top f left items rest x z st old new e at same h =
       rw (ap reverse at ∙ reverse-push rest x) (acts-calls (answer_of f left x) (output_of f left x) (reverse rest) st old new e
-        (subst (λ (y : ℤ). Calls written room faults (answer_of f left y) (output_of f left y) old new (Err e)) same h))
+      (subst (λ (y : ℤ). Calls written room faults (answer_of f left y) (output_of f left y) old new (Err e)) same h))
 
 pub ruleset step_laws = (reverse-push, adds-nothing, adds-all)

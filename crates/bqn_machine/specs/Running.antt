@@ -3,7 +3,7 @@ use Rattle.std.specs.Prelude.{◌≡◌, ℕ, ℤ, List, [], ◌∷◌, Option, 
 use Rattle.bqn_base.specs.declared.fault.Fault.{Fault}
 use Rattle.bqn_io.specs.Writing.{Adds, AddsPart, Breaks}
 use Rattle.bqn_syntax.specs.declared.tree.Function.{Function}
-use Rattle.bqn_syntax.specs.Evaluation.{State, Res, Gives, Faults, Spends, answer_of, output_of}
+use Rattle.bqn_syntax.specs.Evaluation.{Res, Gives, Faults, Spends, answer_of, output_of}
 use Rattle.bqn_machine.specs.declared.code.Instr.{Instr}
 use Rattle.bqn_machine.specs.declared.code.Instr.TheVariants.{Const, Call1, Call2, Pop}
 use Rattle.bqn_machine.specs.declared.end.End.{End}

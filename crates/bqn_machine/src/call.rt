@@ -24,7 +24,13 @@ fn answer(function: Function, left: Option<i64>, x: i64) -> Result<i64, Fault>
 }
 
 /// Calls a function on numbers. Only `•Show` without a left argument writes.
-pub(crate) fn call<K: Sink>(alloc: Global, function: Function, left: Option<i64>, x: i64, out: &mut K) -> Result<i64, End>
+pub(crate) fn call<K: Sink>(
+    alloc: Global,
+    function: Function,
+    left: Option<i64>,
+    x: i64,
+    out: &mut K,
+) -> Result<i64, End>
     ensures { Calls K.written K.room K.faults (answer_of function left x) (output_of function left x) out.old out.new result }
 {
     if let (Function::Show, None) = (function, left) {

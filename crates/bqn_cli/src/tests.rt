@@ -1,0 +1,127 @@
+use crate::command::command;
+use bqn_base::{Status, Text};
+use bqn_io::{MemoryFiles, MemorySink, MemorySource};
+use std::alloc::{AllocError, Global};
+use std::test::Fail;
+
+/// Words of a command line that are split at spaces.
+fn words_of(alloc: Global, line: &str) -> Result<Vec<String>, AllocError> {
+    let mut words = Vec::new(alloc);
+    for word in line.split_whitespace() {
+        words.push(String::from_str(alloc, word)?)?;
+    }
+    Ok(words)
+}
+
+/// The status of a command line where the file `f` has this source, and what it wrote.
+fn ran(
+    rt: &HostRuntime,
+    line: &str,
+    source: &[u8],
+    failing: &[u64],
+) -> Result<(Status, Vec<u8>), Fail> {
+    let alloc = rt.alloc();
+    let words = words_of(alloc, line)?;
+    let file = (Text::new(alloc, &['f'])?, source.to_vec(alloc)?);
+    let mut files = MemoryFiles::new(alloc, vec![in alloc; file]?, Vec::new(alloc))?;
+    let mut input = MemorySource::new(Vec::new(alloc), 1, Vec::new(alloc));
+    let mut output = MemorySink::new(alloc, 4096, failing.to_vec(alloc)?)?;
+    let status = command(alloc, &words, &mut files, &mut input, &mut output);
+    Ok((status, output.written().to_vec(alloc)?))
+}
+
+#[test]
+fn scripts(rt: HostRuntime) -> Result<(), Fail> {
+    let not_yet = "Refused: NotYet\n";
+    for (source, written, status) in [
+        ("", "", Status::Done),
+        ("•Show 2+3", "5\n", Status::Done),
+        (
+            "•Show 9223372036854775807+1",
+            "Error: Overflow\n",
+            Status::Fault,
+        ),
+        ("•Show 10-2-3", "11\n", Status::Done),
+        ("1 •Show 2", "Error: Domain\n", Status::Fault),
+        ("•Show (", not_yet, Status::Refused),
+        ("•Show 7÷2", not_yet, Status::Refused),
+        (
+            "•Show 1,•Show ×-7\n⋄•Show\t¯2×3,,",
+            "1\n¯1\n¯6\n",
+            Status::Done,
+        ),
+        (
+            "•Show ¯9223372036854775808⋄-¯9223372036854775808",
+            "¯9223372036854775808\nError: Overflow\n",
+            Status::Fault,
+        ),
+        ("•Show ¯0\n•Show ×0", "0\n0\n", Status::Done),
+        ("•Show 9223372036854775808", not_yet, Status::Refused),
+        ("¯", not_yet, Status::Refused),
+        ("1 2", not_yet, Status::Refused),
+        ("•Show 1 # one", not_yet, Status::Refused),
+        ("•Show 1\r\n", not_yet, Status::Refused),
+        ("•SHOW 1", not_yet, Status::Refused),
+        ("•Show 1_0", not_yet, Status::Refused),
+    ] {
+        let (ended, bytes) = ran(&rt, "run f", source.as_bytes(), &[])?;
+        assert_eq!(rt; bytes.as_slice(), written.as_bytes(), "{source}");
+        assert_eq!(rt; ended, status, "{source}");
+    }
+    Ok(())
+}
+
+#[test]
+fn sources_of_bytes(rt: HostRuntime) -> Result<(), Fail> {
+    let alloc = rt.alloc();
+    let spaces = vec![in alloc; b' '; 4097]?;
+    let (status, bytes) = ran(&rt, "run f", &spaces[..4096], &[])?;
+    assert_eq!(rt; status, Status::Done);
+    assert_eq!(rt; bytes.len(), 0);
+    for source in [spaces.as_slice(), b"1\n\xff".as_slice()] {
+        let (status, bytes) = ran(&rt, "run f", source, &[])?;
+        assert_eq!(rt; status, Status::Refused);
+        assert_eq!(rt; bytes.as_slice(), b"Refused: NotYet\n".as_slice());
+    }
+    Ok(())
+}
+
+#[test]
+fn command_lines(rt: HostRuntime) -> Result<(), Fail> {
+    for (line, status) in [
+        ("run f", Status::Done),
+        ("run gone", Status::ReadFault),
+        ("", Status::Usage),
+        ("run", Status::Usage),
+        ("run --steps", Status::Usage),
+        ("run --steps 5 f", Status::Usage),
+        ("run f a", Status::Usage),
+        ("check f", Status::Usage),
+        ("Run f", Status::Usage),
+    ] {
+        let (ended, bytes) = ran(&rt, line, b"", &[])?;
+        assert_eq!(rt; ended, status, "{line}");
+        assert_eq!(rt;
+            bytes.starts_with(b"Usage: run [--steps N] FILE"),
+            status == Status::Usage,
+            "{line}"
+        );
+    }
+    Ok(())
+}
+
+#[test]
+fn failing_sinks(rt: HostRuntime) -> Result<(), Fail> {
+    for (line, source, failing, written) in [
+        ("run f", "•Show 2+3", 1, ""),
+        ("run f", "•Show 1⋄•Show 2⋄•Show 3", 2, "1\n"),
+        ("run f", "•Show 1⋄1-¯9223372036854775808", 2, "1\n"),
+        ("run f", "÷", 1, ""),
+        ("", "", 1, ""),
+    ] {
+        let (status, bytes) = ran(&rt, line, source.as_bytes(), &[failing])?;
+        assert_eq!(rt; status, Status::WriteFault, "{source}");
+        assert_eq!(rt; bytes.as_slice(), written.as_bytes(), "{source}");
+    }
+    Ok(())
+}
