@@ -1,8 +1,5 @@
-pub mod Scan
-pub mod Digits
 pub mod Behind
-pub mod Texts
-pub mod Tokens
+pub mod TokenSigns
 pub mod Rows
 pub mod Statements
 pub mod Emitting

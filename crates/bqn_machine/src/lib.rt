@@ -6,11 +6,10 @@ mod code;
 mod compiler;
 mod end;
 mod error;
-mod extent;
 mod line;
-mod piece;
 mod read;
 mod run;
+mod signs;
 
 pub use code::Instr;
 pub use compiler::compile;

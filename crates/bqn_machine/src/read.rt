@@ -1,61 +1,29 @@
 ghost use Rattle.std.specs.Prelude.{◌≡◌, ◌≤◌, [], IfOk, OnOk, Some, reverse, vec_len};
-ghost use Rattle.std.specs.Str.{chars};
-ghost use Rattle.bqn_syntax.specs.Form.{expr_of, is_short, statements_of, steps_of, tree_of, with_row};
-ghost use Rattle.bqn_machine.specs.Reading.{Reads, ReadsAs, behind, behind_left, left_of, text_in, tokens_in};
+ghost use Rattle.bqn_syntax.specs.Form.{expr_of, signs_of, statements_of, steps_of, tree_of, with_row};
+ghost use Rattle.bqn_machine.specs.Reading.{Reads, ReadsAs, behind, behind_left, left_of};
 
 use crate::error::CompileError;
-use crate::extent::longest_piece;
-use crate::piece::token_in;
+use crate::signs::sign_in;
 use bqn_base::Row;
-use bqn_syntax::{Expr, Step, Sign, Tree};
+use bqn_syntax::{Expr, Sign, Step, Token, Tree};
 use std::alloc::{AllocError, Global};
 
-fn is_short_source(source: &[u8]) -> bool
-    ensures { result ≡ is_short source.now }
-{
-    source.len() <= 4096 && !source.contains(&13)
-}
+/// The most tokens of a source of the form that is built so far.
+const MOST_TOKENS: usize = 4096;
 
-fn characters_of(alloc: Global, text: &str) -> Result<Vec<char>, AllocError>
-    ensures { IfOk result (λ text_chars. text_chars.items ≡ chars text.now) }
+/// The parts that tokens play.
+#[tactic(auto, using(crate::proofs::TokenSigns::sign_laws))]
+fn signs(alloc: Global, tokens: &[Token]) -> Result<Vec<Sign>, CompileError>
+    ensures { ReadsAs (λ signs. signs.items) (signs_of tokens.now) result }
 {
-    text.chars().collect(alloc)
-}
-
-/// The text of a source.
-#[tactic(auto, using(crate::proofs::Texts::text_laws))]
-fn characters(alloc: Global, source: &[u8]) -> Result<Vec<char>, CompileError>
-    ensures { ReadsAs (λ text. text.items) (text_in source.now) result }
-{
-    if !is_short_source(source) {
-        return Err(CompileError::NotYet);
-    }
-    let Ok(text) = std::str::from_utf8(source) else {
-        return Err(CompileError::NotYet);
-    };
-    Ok(characters_of(alloc, text)?)
-}
-
-/// The tokens of a text.
-#[tactic(auto, using(crate::proofs::Tokens::token_laws))]
-fn tokens(alloc: Global, text: &[char]) -> Result<Vec<Sign>, CompileError>
-    ensures { ReadsAs (λ tokens. tokens.items) (tokens_in text.now) result }
-{
-    let mut tokens = Vec::new(alloc);
-    let mut rest = text;
-    'pieces: while !rest.is_empty() {
-        let Some(count) = longest_piece(rest) else {
+    let mut signs = Vec::new(alloc);
+    'tokens: for token in tokens {
+        let Some(sign) = sign_in(&token.kind) else {
             return Err(CompileError::NotYet);
         };
-        let (piece, after) = rest.split_at(count);
-        match token_in(piece) {
-            None => return Err(CompileError::NotYet),
-            Some(None) => {}
-            Some(Some(token)) => tokens.push(token)?,
-        }
-        rest = after;
+        signs.push(sign)?;
     }
-    Ok(tokens)
+    Ok(signs)
 }
 
 #[tactic(auto, using(crate::proofs::Rows::row_laws))]
@@ -131,94 +99,36 @@ fn end_row(
     Ok(())
 }
 
-/// The statements of a list of tokens.
+/// The statements of a list of signs.
 #[tactic(auto, using(crate::proofs::Statements::statement_laws))]
-fn statements(alloc: Global, tokens: &[Sign]) -> Result<Vec<Expr>, CompileError>
-    ensures { ReadsAs (λ statements. statements.items) (statements_of [] tokens.now) result }
+fn statements(alloc: Global, signs: &[Sign]) -> Result<Vec<Expr>, CompileError>
+    ensures { ReadsAs (λ statements. statements.items) (statements_of [] signs.now) result }
 {
     let mut statements = Vec::new(alloc);
     let mut row = Vec::new(alloc);
-    'tokens: for token in tokens {
-        match *token {
+    'signs: for sign in signs {
+        match *sign {
             Sign::Separator => end_row(alloc, &mut row, &mut statements)?,
-            token => row.push(token)?,
+            sign => row.push(sign)?,
         }
     }
     end_row(alloc, &mut row, &mut statements)?;
     Ok(statements)
 }
 
-/// The tree of a source.
+/// The tree of a token list.
 ///
 /// # Errors
 ///
-/// `NotYet` where the source is not of the form that is built so far, `Memory` where memory is wanting.
+/// `NotYet` where the tokens are not of the form that is built so far, `Memory` where memory is wanting.
 #[tactic(auto, using(crate::proofs::Statements::tree_laws))]
-pub(crate) fn tree(alloc: Global, source: &[u8]) -> Result<Tree, CompileError>
-    ensures { Reads (tree_of source.now) result }
+pub(crate) fn tree(alloc: Global, tokens: &[Token]) -> Result<Tree, CompileError>
+    ensures { Reads (tree_of tokens.now) result }
 {
-    let text = characters(alloc, source)?;
-    let tokens = tokens(alloc, text.as_slice())?;
-    let statements = statements(alloc, tokens.as_slice())?;
-    Ok(Tree {
-        statements: Row::new(statements),
-    })
-}
-
-#[cfg(test)]
-mod tests {
-    use super::*;
-    use bqn_syntax::Function;
-    use std::test::Fail;
-
-    #[test]
-    fn reads_the_first_form(rt: HostRuntime) -> Result<(), Fail> {
-        let show = Step {
-            function: Function::Show,
-            left: None,
-        };
-        let minus = |left| Step {
-            function: Function::Minus,
-            left: Some(left),
-        };
-        let source = "•Show 10-¯9223372036854775808,\t\n⋄ 7";
-        let read = tree(rt.alloc(), source.as_bytes())?;
-        let [first, second] = read.statements.list() else {
-            return Err(Fail::from("two statements"));
-        };
-        assert_eq!(rt; first.last, i64::MIN);
-        assert_eq!(rt; first.steps.list(), [minus(10), show].as_slice());
-        assert_eq!(rt; second.last, 7);
-        assert!(rt; second.steps.list().is_empty());
-        Ok(())
+    if tokens.len() > MOST_TOKENS {
+        return Err(CompileError::NotYet);
     }
-
-    #[test]
-    fn counts_statements(rt: HostRuntime) {
-        let rows = [
-            ("", Ok(0)),
-            ("1 •Show •Show -×-7,", Ok(1)),
-            ("¯000⋄+1\n\n2", Ok(3)),
-            ("•Show (", Err(CompileError::NotYet)),
-            ("7÷2", Err(CompileError::NotYet)),
-            ("1 2", Err(CompileError::NotYet)),
-            ("1 +", Err(CompileError::NotYet)),
-            ("1 # c", Err(CompileError::NotYet)),
-            ("•show 1", Err(CompileError::NotYet)),
-            ("•Show2", Err(CompileError::NotYet)),
-            ("9223372036854775808", Err(CompileError::NotYet)),
-            ("1\r\n", Err(CompileError::NotYet)),
-        ];
-        for (source, want) in rows {
-            let count = match tree(rt.alloc(), source.as_bytes()) {
-                Ok(read) => Ok(read.statements.list().len()),
-                Err(error) => Err(error),
-            };
-            assert_eq!(rt; count, want, "at {source}");
-        }
-        assert_eq!(rt;
-            tree(rt.alloc(), &[49, 255]).err(),
-            Some(CompileError::NotYet)
-        );
-    }
+    let signs = signs(alloc, tokens)?;
+    let statements = statements(alloc, signs.as_slice())?;
+    Ok(Tree { statements: Row::new(statements) })
 }

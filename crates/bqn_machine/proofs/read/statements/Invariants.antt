@@ -4,5 +4,5 @@ use Rattle.bqn_syntax.specs.Form.{statements_of}
 use Rattle.bqn_machine.specs.Reading.{behind}
 use Rattle.bqn_machine.proofs.read.statements.Given as goal
 
-abbrev pub invariant-tokens : goal.invariant-tokens
-invariant-tokens l = behind l.statements.items (statements_of (reverse l.row.items) (drop l.token-index l.tokens)) ≡ statements_of [] l.tokens
+abbrev pub invariant-signs : goal.invariant-signs
+invariant-signs l = behind l.statements.items (statements_of (reverse l.row.items) (drop l.sign-index l.signs)) ≡ statements_of [] l.signs
