@@ -1,0 +1,3 @@
+pub mod Scan
+pub mod Returns
+pub mod Texts
