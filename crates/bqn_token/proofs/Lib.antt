@@ -1,3 +1,5 @@
 pub mod Scan
 pub mod Returns
 pub mod Texts
+pub mod Singles
+pub mod Names

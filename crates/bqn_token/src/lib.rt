@@ -5,5 +5,6 @@ mod error;
 mod extent;
 mod place;
 mod text;
+mod words;
 
 pub use error::TokenError;
