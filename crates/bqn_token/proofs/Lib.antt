@@ -3,3 +3,5 @@ pub mod Returns
 pub mod Texts
 pub mod Singles
 pub mod Names
+pub mod Quotes
+pub mod Meanings

@@ -1,2 +1,3 @@
 pub mod Tokenizing
 pub mod Singles
+pub mod Literals

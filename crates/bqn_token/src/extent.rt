@@ -1,9 +1,9 @@
 ghost use Rattle.std.specs.Prelude.{◌≡◌};
-ghost use Rattle.bqn_syntax.specs.Table.{first_state, is_digit, is_final, is_letter, is_name_start, is_one_of, is_word, next, singles, within_word};
+ghost use Rattle.bqn_syntax.specs.Table.{first_state, is_digit, is_final, is_letter, is_name_start, is_word, next, within_word};
 ghost use Rattle.bqn_syntax.specs.Cut.{longest};
-ghost use Rattle.bqn_token.specs.Singles.{between};
 ghost use Rattle.bqn_syntax.specs.declared.progress.Progress.TheVariants.{Start};
 
+use crate::single::is_single;
 use bqn_syntax::Progress;
 
 /// Whether this is a digit.
@@ -29,63 +29,6 @@ pub(crate) fn may_stand_in_word(c: char) -> bool
     ensures { result ≡ is_word c }
 {
     may_start_name(c) || is_a_digit(c) || c == '¯' || c == '∞' || c == 'π'
-}
-
-/// Whether this is a piece by itself of ASCII.
-fn is_ascii_single(c: char) -> bool
-    ensures { result ≡ is_one_of (between 0x0 0x80 singles) c }
-{
-    match c {
-        ' ' | '\t' | '\n' | '(' | ')' | '{' | '}' | '[' | ']' | ',' | '.' | ';' | ':' | '?'
-        | '@' | '+' | '-' | '|' | '<' | '>' | '=' | '/' | '!' | '`' => true,
-        _ => false,
-    }
-}
-
-/// Whether this is a piece by itself behind ASCII and before the mathematical operators of Unicode.
-fn is_early_single(c: char) -> bool
-    ensures { result ≡ is_one_of (between 0x80 0x2200 singles) c }
-{
-    match c {
-        '←' | '⇐' | '↩' | '‿' | '·' | '×' | '÷' | '¬' | '↑' | '↓' | '↕' | '«' | '»' | '˙'
-        | '˜' | '˘' | '¨' | '⁼' | '´' | '˝' => true,
-        _ => false,
-    }
-}
-
-/// Whether this is a piece by itself among the mathematical operators of Unicode.
-fn is_operator_single(c: char) -> bool
-    ensures { result ≡ is_one_of (between 0x2200 0x2300 singles) c }
-{
-    match c {
-        '⋄' | '⋆' | '√' | '∧' | '∨' | '≠' | '≤' | '≥' | '≡' | '≢' | '⊣' | '⊢' | '∾' | '≍'
-        | '⋈' | '⊏' | '⊑' | '⊐' | '⊒' | '∊' | '⊔' | '∘' | '⊸' | '⊘' => true,
-        _ => false,
-    }
-}
-
-/// Whether this is a piece by itself behind the mathematical operators of Unicode.
-fn is_late_single(c: char) -> bool
-    ensures { result ≡ is_one_of (between 0x2300 0x110000 singles) c }
-{
-    match c {
-        '⟨' | '⟩' | '𝕨' | '𝕩' | '𝕤' | '𝕗' | '𝕘' | '𝕎' | '𝕏' | '𝕊' | '𝔽' | '𝔾' | '⌊' | '⌈'
-        | '⥊' | '⌽' | '⍉' | '⍋' | '⍒' | '⍷' | '⌜' | '○' | '⟜' | '⌾' | '◶' | '⎉' | '⚇' | '⍟'
-        | '⎊' => true,
-        _ => false,
-    }
-}
-
-/// Whether this is a piece by itself: a blank, punctuation, `@`, a special name or a primitive.
-fn is_single(c: char) -> bool
-    ensures { result ≡ is_one_of singles c }
-{
-    match c as u32 {
-        0..0x80 => is_ascii_single(c),
-        0x80..0x2200 => is_early_single(c),
-        0x2200..0x2300 => is_operator_single(c),
-        _ => is_late_single(c),
-    }
 }
 
 fn first_progress(c: char) -> Option<Progress>

@@ -3,7 +3,10 @@
 
 mod error;
 mod extent;
+mod kinds;
+mod literals;
 mod place;
+mod single;
 mod text;
 mod words;
 
