@@ -54,27 +54,27 @@ is_doubled-quotes c d cs e f rest =
     ∙ ap (λ (b : Bool). b && is_doubled cs) f
     ∙ rest
 
+-- a text of three characters or more, from the rest of it behind one character and behind two
+doubled-step : (c d x : ℕ) (cs : List ℕ) (first second : Bool) → (c == 34) ≡ first → (d == 34) ≡ second → is_piece_from Inside (c ∷ d ∷ x ∷ cs) ≡ true
+   → (is_piece_from Inside (d ∷ x ∷ cs) ≡ true → is_doubled (d ∷ all_but_last (x ∷ cs)) ≡ true)
+   → (is_piece_from Inside (x ∷ cs) ≡ true → is_doubled (all_but_last (x ∷ cs)) ≡ true)
+   → is_doubled (c ∷ d ∷ all_but_last (x ∷ cs)) ≡ true
+doubled-step c d x cs true true e f is one two =
+    is_doubled-quotes c d (all_but_last (x ∷ cs)) e f (two (sym (inside-quote c (d ∷ x ∷ cs) e ∙ closed-quote d (x ∷ cs) f) ∙ is))
+doubled-step c d x cs true false e f is one two = let never = sym (inside-quote c (d ∷ x ∷ cs) e ∙ closed-other d (x ∷ cs) f) ∙ is in cc
+doubled-step c d x cs false second e f is one two = is_doubled-other c (d ∷ all_but_last (x ∷ cs)) e (one (sym (inside-other c (d ∷ x ∷ cs) e) ∙ is))
+
+-- a text of two characters does not begin with the quote that ends it
+doubled-two : (c d : ℕ) (first second : Bool) → (c == 34) ≡ first → (d == 34) ≡ second → is_piece_from Inside (c ∷ d ∷ []) ≡ true → is_doubled (c ∷ []) ≡ true
+doubled-two c d true true e f is = let never = sym (inside-quote c (d ∷ []) e ∙ closed-quote d [] f) ∙ is in cc
+doubled-two c d true false e f is = let never = sym (inside-quote c (d ∷ []) e ∙ closed-other d [] f) ∙ is in cc
+doubled-two c d false second e f is = is_doubled-other c [] e refl
+
 -- the quotes inside a text that ends are doubled
 pub doubled-inside : (cs : List ℕ) → is_piece_from Inside cs ≡ true → is_doubled (all_but_last cs) ≡ true
 doubled-inside [] is = cc
 doubled-inside (c ∷ []) is = refl
-doubled-inside (c ∷ d ∷ []) is = at (c == 34) refl
-  where
-    at : (quote : Bool) → (c == 34) ≡ quote → is_doubled (c ∷ []) ≡ true
-    at true e = two (d == 34) refl
-      where
-        two : (other : Bool) → (d == 34) ≡ other → is_doubled (c ∷ []) ≡ true
-        two true f = let never = sym (inside-quote c (d ∷ []) e ∙ closed-quote d [] f) ∙ is in cc
-        two false f = let never = sym (inside-quote c (d ∷ []) e ∙ closed-other d [] f) ∙ is in cc
-    at false e = is_doubled-other c [] e refl
-doubled-inside (c ∷ d ∷ x ∷ cs) is = at (c == 34) refl
-  where
-    at : (quote : Bool) → (c == 34) ≡ quote → is_doubled (c ∷ d ∷ all_but_last (x ∷ cs)) ≡ true
-    at true e = two (d == 34) refl
-      where
-        two : (other : Bool) → (d == 34) ≡ other → is_doubled (c ∷ d ∷ all_but_last (x ∷ cs)) ≡ true
-        two true f = is_doubled-quotes c d (all_but_last (x ∷ cs)) e f (doubled-inside (x ∷ cs) (sym (inside-quote c (d ∷ x ∷ cs) e ∙ closed-quote d (x ∷ cs) f) ∙ is))
-        two false f = let never = sym (inside-quote c (d ∷ x ∷ cs) e ∙ closed-other d (x ∷ cs) f) ∙ is in cc
-    at false e = is_doubled-other c (d ∷ all_but_last (x ∷ cs)) e (doubled-inside (d ∷ x ∷ cs) (sym (inside-other c (d ∷ x ∷ cs) e) ∙ is))
+doubled-inside (c ∷ d ∷ []) is = doubled-two c d (c == 34) (d == 34) refl refl is
+doubled-inside (c ∷ d ∷ x ∷ cs) is = doubled-step c d x cs (c == 34) (d == 34) refl refl is (doubled-inside (d ∷ x ∷ cs)) (doubled-inside (x ∷ cs))
 
 pub ruleset doubled_laws = (doubled-inside)
