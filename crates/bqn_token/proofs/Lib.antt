@@ -5,3 +5,4 @@ pub mod Singles
 pub mod Names
 pub mod Quotes
 pub mod Meanings
+pub mod Pieces

@@ -13,8 +13,8 @@ use Rattle.bqn_syntax.specs.Tokens.{Trouble, number_kind, single_kind, kind_of}
 use Rattle.bqn_syntax.specs.Words.{special_of, role_of}
 use Rattle.bqn_token.specs.Singles.{primitives}
 use Rattle.bqn_token.specs.Tokenizing.{placed}
-use Rattle.bqn_token.specs.Literals.{number_of}
-use Rattle.bqn_token.specs.declared.literals.NumberError.TheVariants as e
+use Rattle.bqn_literal.specs.Results.{number_of}
+use Rattle.bqn_literal.specs.declared.error.NumberError.TheVariants as e
 
 pub number-ok : (l : Literal) (z : ℤ) (place : Place) → Ok z ≡ number_of l → placed place (number_kind l) ≡ Ok (Some (kind.Number z))
 number-ok (Number y) z place is = let same : y ≡ z = cc in ap (λ (x : ℤ). Ok (Some (kind.Number x))) same

@@ -1,3 +1,2 @@
 pub mod Tokenizing
 pub mod Singles
-pub mod Literals

@@ -1,7 +1,9 @@
 -- What tokenizing gives, beside the definition of the tokens.
-use Rattle.std.specs.Prelude.{◌≡◌, ℕ, ◌==◌, if◌then◌else◌, List, [], ◌∷◌, ◌++◌, Result, Ok, Err}
+use Rattle.std.specs.Prelude.{◌≡◌, ℕ, ◌==◌, if◌then◌else◌, List, [], ◌∷◌, ◌++◌, Vec, Result, Ok, Err}
+use Rattle.std.specs.declared.alloc.Global.{Global}
 use Rattle.bqn_base.specs.declared.place.Place.{Place}
 use Rattle.bqn_base.specs.declared.refusal.Refusal.{Refusal}
+use Rattle.bqn_syntax.specs.declared.token.Token.{Token}
 use Rattle.bqn_syntax.specs.Tokens.{Trouble, refused_at}
 use Rattle.bqn_token.specs.declared.error.TokenError.{TokenError}
 use Rattle.bqn_token.specs.declared.error.TokenError.TheVariants.{Refused, Memory}
@@ -17,6 +19,12 @@ abbrev pub Gives : {A : Type 0} → Result A Refusal → Result A TokenError →
 Gives answer (Ok value) = answer ≡ Ok value
 Gives answer (Err (Refused r)) = answer ≡ Err r
 Gives answer (Err Memory) = Unit {0}
+
+-- the tokens that are given are these, or the refusal is; want of memory says nothing
+abbrev pub Tokenizes : Result (List Token) Refusal → Result (Vec Token Global) TokenError → Type 0
+Tokenizes answer (Ok given) = answer ≡ Ok given.items
+Tokenizes answer (Err (Refused r)) = answer ≡ Err r
+Tokenizes answer (Err Memory) = Unit {0}
 
 -- an answer whose trouble is refused at a place
 abbrev pub placed : {A : Type 0} → Place → Result A Trouble → Result A Refusal
