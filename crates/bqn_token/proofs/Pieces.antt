@@ -14,7 +14,7 @@ use Rattle.bqn_syntax.specs.Tokens.{Trouble, refused_at, no_piece, kind_of, past
 use Rattle.bqn_syntax.proofs.Longest.{longest-first}
 use Rattle.bqn_token.specs.declared.error.TokenError.{TokenError}
 use Rattle.bqn_token.specs.declared.error.TokenError.TheVariants.{Refused, Memory}
-use Rattle.bqn_token.specs.Tokenizing.{Gives, GivesAs, placed}
+use Rattle.bqn_token.specs.Tokenizing.{Gives, Tokenizes, placed}
 
 -- tokens in front of those that follow, or the refusal of what follows
 abbrev pub onto : List Token → Result (List Token) Refusal → Result (List Token) Refusal
@@ -126,9 +126,9 @@ some_left (c ∷ cs) d e = omega arith
 
 -- an error at a piece is the error of the whole
 pub error-at : (whole : Result (List Token) Refusal) (front : List Token) (place : Place) (text : List ℕ) (count : ℕ) (error : TokenError) → onto front (tokens_behind 0 place text) ≡ whole → longest Start text ≡ Some count
-   → Gives (placed place (kind_of (take count text))) (Err error) → {V : Type 0} (view : V → List Token) → GivesAs view whole (Err error)
-error-at whole front place text count (Refused r) same e is view = sym same ∙ tokens-refused front place text count r e is
-error-at whole front place text count Memory same e is view = tt
+   → Gives (placed place (kind_of (take count text))) (Err error) → Tokenizes whole (Err error)
+error-at whole front place text count (Refused r) same e is = sym same ∙ tokens-refused front place text count r e is
+error-at whole front place text count Memory same e is = tt
 
 -- a place grows by at most one line and one column with each character
 pub line-behind : (piece : List ℕ) (place : Place) → (behind piece place).line ≤ place.line + length piece

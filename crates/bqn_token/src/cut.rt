@@ -1,6 +1,6 @@
 ghost use Rattle.std.specs.Prelude.{◌≤◌, ◌^◌, length};
 ghost use Rattle.bqn_syntax.specs.Tokens.{tokens_of_text};
-ghost use Rattle.bqn_token.specs.Tokenizing.{GivesAs};
+ghost use Rattle.bqn_token.specs.Tokenizing.{Tokenizes};
 
 use crate::error::TokenError;
 use crate::extent::longest_piece;
@@ -17,7 +17,7 @@ use std::alloc::Global;
 #[tactic(auto, using(crate::proofs::Pieces::cut_laws))]
 pub(crate) fn tokens_in(alloc: Global, text: &[char]) -> Result<Vec<Token>, TokenError>
     requires { length text.now ≤ 2 ^ 20 }
-    ensures { GivesAs (λ tokens. tokens.items) (tokens_of_text text.now) result }
+    ensures { Tokenizes (tokens_of_text text.now) result }
 {
     let mut tokens = Vec::with_capacity(alloc, text.len() / 2 + 1)?;
     let mut rest = text;
