@@ -8,11 +8,10 @@ ghost use Rattle.bqn_token.specs.Tokenizing.{Gives, placed};
 
 use crate::error::TokenError;
 use crate::extent::{may_stand_in_word, may_start_name};
-use crate::literals::number;
 use crate::single::primitive_code;
 use crate::words::{kind_of_system_word, kind_of_word, special};
 use bqn_base::{Memory, Place, Refusal};
-use bqn_literal::{NumberError, string};
+use bqn_literal::{NumberError, number, string};
 use bqn_roles::role;
 use bqn_syntax::Kind;
 use std::alloc::Global;

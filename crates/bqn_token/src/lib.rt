@@ -5,7 +5,6 @@ mod cut;
 mod error;
 mod extent;
 mod kinds;
-mod literals;
 mod place;
 mod single;
 mod source;
