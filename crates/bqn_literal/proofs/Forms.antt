@@ -50,7 +50,7 @@ figures-all : (cs : List ℕ) → list_all is_digit (without_underscores cs) ≡
 figures-all [] a = refl
 figures-all (c ∷ cs) a = figures_case (is_digit c) (c == 95) c cs (figures-all cs) refl refl a
 
-all-are_digits : (cs : List ℕ) → are_digits cs ≡ true → list_all is_digit cs ≡ true
+pub all-are_digits : (cs : List ℕ) → are_digits cs ≡ true → list_all is_digit cs ≡ true
 all-are_digits [] a = refl
 all-are_digits (c ∷ cs) a = a
 
@@ -60,13 +60,13 @@ figures-are_digits cs a = figures-all cs (all-are_digits (without_underscores cs
 figures-none : (cs : List ℕ) → without_underscores cs ≡ [] → figures cs ≡ []
 figures-none cs h = figures-all cs (ap (list_all is_digit) h) ∙ h
 
-abbrev spelled_with : (negative : Bool) → (whole fraction : List ℕ) → (down : Bool) → (power : List ℕ) → Spelled
+abbrev pub spelled_with : (negative : Bool) → (whole fraction : List ℕ) → (down : Bool) → (power : List ℕ) → Spelled
 spelled_with negative whole fraction down power = record { negative = negative; whole = whole; fraction = fraction; down = down; power = power }
 
 pub with_end-none : (negative : Bool) (whole fraction cs : List ℕ) → without_underscores cs ≡ [] → with_end negative whole fraction (without_underscores cs) ≡ Some (spelled_with negative whole fraction false (figures cs))
 with_end-none negative whole fraction cs h = ap (with_end negative whole fraction) h ∙ ap (λ (p : List ℕ). Some (spelled_with negative whole fraction false p)) (sym (figures-none cs h))
 
-abbrev power_case : (negative : Bool) → (whole fraction : List ℕ) → (c : ℕ) → (cs : List ℕ) → (macron down up : Bool) → Option Spelled
+abbrev pub power_case : (negative : Bool) → (whole fraction : List ℕ) → (c : ℕ) → (cs : List ℕ) → (macron down up : Bool) → Option Spelled
 power_case negative whole fraction c cs macron down up = if macron then (if down then Some (spelled_with negative whole fraction true cs) else None) else (if up then Some (spelled_with negative whole fraction false (c ∷ cs)) else None)
 
 pub with_power-down : (negative : Bool) (whole fraction ks : List ℕ) (c : ℕ) (cs : List ℕ) → ks ≡ c ∷ without_underscores cs → c ≡ 175 → are_digits (without_underscores cs) ≡ true → with_power negative whole fraction ks ≡ Some (spelled_with negative whole fraction true (figures cs))

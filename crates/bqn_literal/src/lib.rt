@@ -4,7 +4,10 @@
 mod error;
 mod front;
 mod spelling;
+mod word;
 mod quoted;
+mod significand;
 
 pub use error::NumberError;
 pub use quoted::string;
+pub use word::number;
