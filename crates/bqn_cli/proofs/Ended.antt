@@ -3,13 +3,16 @@ use Rattle.std.proofs.Common.{ℕ, List, [], ◌++◌, Option, Some, None, Resul
 use Rattle.std.proofs.lemmas.List.{append-nil}
 use Rattle.std.specs.Prelude.{encode_utf8_all, IsSome}
 use Rattle.bqn_base.specs.declared.fault.Fault.{Fault}
+use Rattle.bqn_base.specs.declared.refusal.Refusal.{Refusal}
 use Rattle.bqn_base.specs.declared.refusal.Refusal.TheVariants.{NotYet}
 use Rattle.bqn_base.specs.declared.status.Status.{Status}
 use Rattle.bqn_base.specs.declared.status.Status.TheVariants as status
 use Rattle.bqn_base.specs.Printed.{error_line}
 use Rattle.bqn_io.specs.Writing.{Adds, AddsPart, Breaks}
 use Rattle.bqn_io.proofs.Writing.{adds-nothing, adds-then, adds-then-part, adds-then-breaks}
+use Rattle.bqn_syntax.specs.declared.token.Token.{Token}
 use Rattle.bqn_syntax.specs.declared.tree.Tree.{Tree}
+use Rattle.bqn_syntax.specs.Form.{tree_of}
 use Rattle.bqn_syntax.specs.Evaluation.{State, Gives as Value, Faults, Spends}
 use Rattle.bqn_machine.specs.declared.code.Instr.{Instr}
 use Rattle.bqn_machine.specs.declared.end.End.TheVariants as end
@@ -21,7 +24,7 @@ use Rattle.std.specs.declared.vec.Vec.{Vec}
 use Rattle.std.specs.declared.alloc.Global.{Global}
 use Rattle.bqn_cli.specs.declared.halted.Halted.{Halted}
 use Rattle.bqn_cli.specs.declared.halted.Halted.TheVariants as halted
-use Rattle.bqn_cli.specs.Answer.{ended, faulted, refused, tree_answer, default_steps}
+use Rattle.bqn_cli.specs.Answer.{ended, faulted, refused, tokens_answer, tree_answer, default_steps}
 use Rattle.bqn_cli.specs.Writing.{Gives, GivesRun}
 
 -- code of a source misses no operand
@@ -85,6 +88,16 @@ module _ {K : Type 0} (written : K → Option (List ℕ)) (room faults : K → �
   pub source-memory : (tree : Option Tree) (old : K) → Gives written room faults (tree_answer tree) old old (Err halted.Memory)
   source-memory tree old = record { front = []; rest = (tree_answer tree).out; whole = refl; adds = adds-nothing written room faults old }
 
+  pub source-tokens : (answer : Result (List Token) Refusal) (given : Vec Token Global) (old new : K) (result : Result Status Halted) → answer ≡ Ok given.items → Gives written room faults (tree_answer (tree_of given.items)) old new result → Gives written room faults (tokens_answer answer) old new result
+  source-tokens answer given old new result e h = subst (λ (a : Result (List Token) Refusal). Gives written room faults (tokens_answer a) old new result) (sym e) h
+
+  pub source-refusal : (answer : Result (List Token) Refusal) (r : Refusal) (old new : K) (result : Result Status Halted) → answer ≡ Err r → Gives written room faults (refused r) old new result → Gives written room faults (tokens_answer answer) old new result
+  source-refusal answer r old new result e h = subst (λ (a : Result (List Token) Refusal). Gives written room faults (tokens_answer a) old new result) (sym e) h
+
+  pub gives-nothing : (answer : Answer) (old : K) → Gives written room faults answer old old (Err halted.Memory)
+  gives-nothing answer old = record { front = []; rest = answer.out; whole = refl; adds = adds-nothing written room faults old }
+
+pub ruleset token_laws = (source-tokens, source-refusal, gives-nothing)
 pub ruleset run_laws = (run-done, run-spent, run-memory, run-write_fault, run-faulted)
 
 pub ruleset source_laws = (compiles-some, source-run, source-refused, source-memory)

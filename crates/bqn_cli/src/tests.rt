@@ -36,33 +36,26 @@ fn scripts(rt: HostRuntime) -> Result<(), Fail> {
     for (source, written, status) in [
         ("", "", Status::Done),
         ("•Show 2+3", "5\n", Status::Done),
-        (
-            "•Show 9223372036854775807+1",
-            "Error: Overflow\n",
-            Status::Fault,
-        ),
+        ("•Show 9223372036854775807+1", "Error: Overflow\n", Status::Fault),
         ("•Show 10-2-3", "11\n", Status::Done),
         ("1 •Show 2", "Error: Domain\n", Status::Fault),
+        ("•Show 1,•Show ×-7\n⋄•Show\t¯2×3,,", "1\n¯1\n¯6\n", Status::Done),
+        ("•Show ¯9223372036854775808⋄-¯9223372036854775808", "¯9223372036854775808\nError: Overflow\n", Status::Fault),
+        ("•Show ¯0\n•SHOW ×0 # zero\r\n", "0\n0\n", Status::Done),
+        ("•Show 1_0e2-1_e1", "990\n", Status::Done),
         ("•Show (", not_yet, Status::Refused),
         ("•Show 7÷2", not_yet, Status::Refused),
-        (
-            "•Show 1,•Show ×-7\n⋄•Show\t¯2×3,,",
-            "1\n¯1\n¯6\n",
-            Status::Done,
-        ),
-        (
-            "•Show ¯9223372036854775808⋄-¯9223372036854775808",
-            "¯9223372036854775808\nError: Overflow\n",
-            Status::Fault,
-        ),
-        ("•Show ¯0\n•Show ×0", "0\n0\n", Status::Done),
-        ("•Show 9223372036854775808", not_yet, Status::Refused),
-        ("¯", not_yet, Status::Refused),
         ("1 2", not_yet, Status::Refused),
-        ("•Show 1 # one", not_yet, Status::Refused),
-        ("•Show 1\r\n", not_yet, Status::Refused),
-        ("•SHOW 1", not_yet, Status::Refused),
-        ("•Show 1_0", not_yet, Status::Refused),
+        ("•show 1", not_yet, Status::Refused),
+        ("$", "Refused: BadChar 1:1\n", Status::Refused),
+        ("'ab'", "Refused: OpenQuote 1:1\n", Status::Refused),
+        ("3i4", "Refused: BadNumber 1:1\n", Status::Refused),
+        ("1.5", "Refused: NumberRange 1:1\n", Status::Refused),
+        ("∞", "Refused: NumberRange 1:1\n", Status::Refused),
+        ("_1", "Refused: BadName 1:1\n", Status::Refused),
+        ("•Show \"ab", "Refused: OpenQuote 1:7\n", Status::Refused),
+        ("•Show 9223372036854775808", "Refused: NumberRange 1:7\n", Status::Refused),
+        ("\t¯", "Refused: BadNumber 1:2\n", Status::Refused),
     ] {
         let (ended, bytes) = ran(&rt, "run f", source.as_bytes(), &[])?;
         assert_eq!(rt; bytes.as_slice(), written.as_bytes(), "{source}");
@@ -74,14 +67,17 @@ fn scripts(rt: HostRuntime) -> Result<(), Fail> {
 #[test]
 fn sources_of_bytes(rt: HostRuntime) -> Result<(), Fail> {
     let alloc = rt.alloc();
-    let spaces = vec![in alloc; b' '; 4097]?;
-    let (status, bytes) = ran(&rt, "run f", &spaces[..4096], &[])?;
-    assert_eq!(rt; status, Status::Done);
-    assert_eq!(rt; bytes.len(), 0);
-    for source in [spaces.as_slice(), b"1\n\xff".as_slice()] {
-        let (status, bytes) = ran(&rt, "run f", source, &[])?;
-        assert_eq!(rt; status, Status::Refused);
-        assert_eq!(rt; bytes.as_slice(), b"Refused: NotYet\n".as_slice());
+    let spaces = vec![in alloc; b' '; 1_048_577]?;
+    let separators = vec![in alloc; b','; 4097]?;
+    for (source, written) in [
+        (spaces.as_slice(), "Refused: TooLong\n"),
+        (&spaces[..1_048_576], ""),
+        (separators.as_slice(), "Refused: NotYet\n"),
+        (&separators[..4096], ""),
+        (b"1\n\xff".as_slice(), "Refused: NotUtf8 at byte 2\n"),
+    ] {
+        let (_, bytes) = ran(&rt, "run f", source, &[])?;
+        assert_eq!(rt; bytes.as_slice(), written.as_bytes());
     }
     Ok(())
 }
@@ -117,6 +113,7 @@ fn failing_sinks(rt: HostRuntime) -> Result<(), Fail> {
         ("run f", "•Show 1⋄•Show 2⋄•Show 3", 2, "1\n"),
         ("run f", "•Show 1⋄1-¯9223372036854775808", 2, "1\n"),
         ("run f", "÷", 1, ""),
+        ("run f", "$", 1, ""),
         ("", "", 1, ""),
     ] {
         let (status, bytes) = ran(&rt, line, source.as_bytes(), &[failing])?;
