@@ -2,7 +2,6 @@ pub mod Behind
 pub mod TokenSigns
 pub mod Rows
 pub mod Statements
-pub mod Emitting
 pub mod Simulation
 pub mod Compiled
 pub mod NumberLine

@@ -1,5 +1,5 @@
 -- Cuts, trees and evaluations, computed.
-use Rattle.std.proofs.Common.{◌≡◌, ℕ, pos, negsuc, List, [], ◌∷◌, Option, Some, None, Ok, refl}
+use Rattle.std.proofs.Common.{◌≡◌, ℕ, ℤ, pos, pos, negsuc, List, [], ◌∷◌, Option, Some, None, Ok, refl}
 use Rattle.std.specs.Str.{chars, is_utf8}
 use Rattle.std.specs.Option.{option_map, option_and_then}
 use Rattle.std.specs.Result.{result_ok}
@@ -50,7 +50,7 @@ abbrev seen : List ℕ → ℕ → Option (Res (Unit {0}))
 seen text steps = option_and_then (λ tokens. option_map (λ tree. evaluated tree steps) (tree_of tokens)) (result_ok (tokens_of_source (source text)))
 
 abbrev state : List ℕ → ℕ → State
-state text left = record { written = encode_utf8_all text; left = left }
+state text left = record { written = encode_utf8_all text; left = left; vars = [] }
 
 nothing_written : seen (codes "") 1 ≡ Some (Gives tt (state [] 0))
 unfolding chars is_utf8 encode
@@ -106,3 +106,52 @@ not_yet_other_role = refl
 other_spelling : seen (codes "•S_HOW 1_0e1\r\n# c") 1 ≡ Some (Gives tt (state (codes "100\n") 0))
 unfolding chars is_utf8 encode digits
 other_spelling = refl
+
+-- names and parentheses
+abbrev ended : List ℕ → List ℤ → Res (Unit {0})
+ended text vars = Gives tt (record { written = encode_utf8_all text; left = 0; vars = vars })
+
+names_of_two_spellings : seen (codes "a_B←1e3 # c\n•Show ab-1_0") 1 ≡ Some (ended (codes "990\n") (pos 1000 ∷ []))
+unfolding chars is_utf8 encode digits
+names_of_two_spellings = refl
+
+names_and_parentheses : seen (codes "a←2 ⋄ b←a×(a+3) ⋄ •Show -b") 1 ≡ Some (ended (codes "¯10\n") (pos 2 ∷ pos 10 ∷ []))
+unfolding chars is_utf8 encode digits
+names_and_parentheses = refl
+
+-- the right argument first
+order_of_arguments : seen (codes "•Show(•Show 1)+(•Show 2)") 1 ≡ Some (ended (codes "2\n1\n3\n") [])
+unfolding chars is_utf8 encode digits
+order_of_arguments = refl
+
+not_yet_redefined : seen (codes "a←1⋄a←2") 1 ≡ None
+unfolding chars is_utf8 encode
+not_yet_redefined = refl
+
+not_yet_used_in_its_definition : seen (codes "a←a") 1 ≡ None
+unfolding chars is_utf8 encode
+not_yet_used_in_its_definition = refl
+
+not_yet_adjacent : seen (codes "(1)(2)") 1 ≡ None
+unfolding chars is_utf8 encode
+not_yet_adjacent = refl
+
+not_yet_separator_inside : seen (codes "(1⋄2)") 1 ≡ None
+unfolding chars is_utf8 encode
+not_yet_separator_inside = refl
+
+not_yet_open : seen (codes "1)") 1 ≡ None
+unfolding chars is_utf8 encode
+not_yet_open = refl
+
+not_yet_empty_parentheses : seen (codes "()") 1 ≡ None
+unfolding chars is_utf8 encode
+not_yet_empty_parentheses = refl
+
+not_yet_definition_inside : seen (codes "1+(a←2)") 1 ≡ None
+unfolding chars is_utf8 encode
+not_yet_definition_inside = refl
+
+not_yet_definition_left : seen (codes "1+a←2") 1 ≡ None
+unfolding chars is_utf8 encode
+not_yet_definition_left = refl
