@@ -37,7 +37,7 @@ IsPrefix answered old new other = Unit {0}
 
 -- what each status of a command shows, where the counts of the file of a name and of the output rose so
 abbrev pub Cause : (List ℕ → Type 0) → Type 0 → Command → Status → Type 0
-Cause file_rose output_rose command status.WriteFault = output_rose
+Cause file_rose output_rose _ status.WriteFault = output_rose
 Cause file_rose output_rose (Run file) status.Done = Unit {0}
 Cause file_rose output_rose (Run file) status.Fault = Unit {0}
 Cause file_rose output_rose (Run file) status.Refused = Unit {0}
@@ -68,7 +68,7 @@ LeavesFiles NoCommand old new = new ≡ old
 
 -- no command touches the input yet
 abbrev pub LeavesInput : {S : Type 0} → Command → S → S → Type 0
-LeavesInput command old new = new ≡ old
+LeavesInput _ old new = new ≡ old
 
 -- what a command does to files and a sink, which show what the traits `Files` and `Sink` say
 module _ {F K : Type 0} (told : F → List ℕ → Told) (is_steady : F → Bool) (file_faults : F → List ℕ → ℕ) (written : K → Option (List ℕ)) (room faults : K → ℕ) where

@@ -1,7 +1,3 @@
-pub mod Behind
-pub mod TokenSigns
-pub mod Rows
-pub mod Statements
 pub mod Simulation
 pub mod Compiled
 pub mod NumberLine

@@ -3,16 +3,12 @@
 
 mod call;
 mod code;
-mod compiler;
 mod end;
 mod error;
 mod line;
-mod read;
 mod run;
-mod signs;
 
 pub use code::Instr;
-pub use compiler::compile;
 pub use end::End;
 pub use error::CompileError;
 pub use run::run_code;
