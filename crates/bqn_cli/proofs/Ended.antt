@@ -11,7 +11,7 @@ use Rattle.bqn_base.specs.Printed.{error_line}
 use Rattle.bqn_io.specs.Writing.{Adds, AddsPart, Breaks}
 use Rattle.bqn_io.proofs.Writing.{adds-nothing, adds-then, adds-then-part, adds-then-breaks}
 use Rattle.bqn_syntax.specs.declared.token.Token.{Token}
-use Rattle.bqn_syntax.specs.declared.tree.Tree.{Tree}
+use Rattle.bqn_syntax.specs.Tree.{Stmt}
 use Rattle.bqn_syntax.specs.Form.{tree_of}
 use Rattle.bqn_syntax.specs.Evaluation.{State, Gives as Value, Faults, Spends}
 use Rattle.bqn_machine.specs.declared.code.Instr.{Instr}
@@ -28,7 +28,7 @@ use Rattle.bqn_cli.specs.Answer.{ended, faulted, refused, tokens_answer, tree_an
 use Rattle.bqn_cli.specs.Writing.{Gives, GivesRun}
 
 -- code of a source misses no operand
-pub compiles-some : (tree : Option Tree) (code : Vec Instr Global) (steps : ℕ) → Compiles tree (Ok code) → IsSome (executed code.items steps)
+pub compiles-some : (tree : Option (List Stmt)) (code : Vec Instr Global) (steps : ℕ) → Compiles tree (Ok code) → IsSome (executed code.items steps)
 compiles-some None code steps h = absurd h
 compiles-some (Some tree) code steps h = subst (λ (run : Run). IsSome run) (sym (h steps)) refl
 
@@ -77,15 +77,15 @@ module _ {K : Type 0} (written : K → Option (List ℕ)) (room faults : K → �
   run-faulted (Some (Faults g s)) f old mid new result e h = behind g s old mid new result e.1 (subst (λ (x : Fault). Gives written room faults (faulted x) mid new result) e.0 h)
   run-faulted (Some (Spends s)) f old mid new result e h = absurd e
 
-  pub source-run : (tree : Option Tree) (code : Vec Instr Global) (old new : K) (result : Result Status Halted) → Compiles tree (Ok code) → GivesRun written room faults (executed code.items default_steps) old new result → Gives written room faults (tree_answer tree) old new result
+  pub source-run : (tree : Option (List Stmt)) (code : Vec Instr Global) (old new : K) (result : Result Status Halted) → Compiles tree (Ok code) → GivesRun written room faults (executed code.items default_steps) old new result → Gives written room faults (tree_answer tree) old new result
   source-run None code old new result c h = absurd c
   source-run (Some tree) code old new result c h = subst (λ (run : Run). GivesRun written room faults run old new result) (c default_steps) h
 
-  pub source-refused : (tree : Option Tree) (old new : K) (result : Result Status Halted) → Compiles tree (Err compile.NotYet) → Gives written room faults (refused NotYet) old new result → Gives written room faults (tree_answer tree) old new result
+  pub source-refused : (tree : Option (List Stmt)) (old new : K) (result : Result Status Halted) → Compiles tree (Err compile.NotYet) → Gives written room faults (refused NotYet) old new result → Gives written room faults (tree_answer tree) old new result
   source-refused None old new result c h = h
   source-refused (Some tree) old new result c h = absurd c
 
-  pub source-memory : (tree : Option Tree) (old : K) → Gives written room faults (tree_answer tree) old old (Err halted.Memory)
+  pub source-memory : (tree : Option (List Stmt)) (old : K) → Gives written room faults (tree_answer tree) old old (Err halted.Memory)
   source-memory tree old = record { front = []; rest = (tree_answer tree).out; whole = refl; adds = adds-nothing written room faults old }
 
   pub source-tokens : (answer : Result (List Token) Refusal) (given : Vec Token Global) (old new : K) (result : Result Status Halted) → answer ≡ Ok given.items → Gives written room faults (tree_answer (tree_of given.items)) old new result → Gives written room faults (tokens_answer answer) old new result

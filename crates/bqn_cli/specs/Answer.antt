@@ -8,7 +8,7 @@ use Rattle.bqn_base.specs.declared.status.Status.TheVariants as status
 use Rattle.bqn_base.specs.Printed.{error_line, refusal_line, usage_line}
 use Rattle.bqn_io.specs.Devices.{Told, Untold, Missing, Kept}
 use Rattle.bqn_syntax.specs.declared.token.Token.{Token}
-use Rattle.bqn_syntax.specs.declared.tree.Tree.{Tree}
+use Rattle.bqn_syntax.specs.Tree.{Stmt}
 use Rattle.bqn_syntax.specs.Tokens.{tokens_of_source}
 use Rattle.bqn_syntax.specs.Form.{tree_of}
 use Rattle.bqn_syntax.specs.Evaluation.{Res, Gives, Faults, Spends, evaluated}
@@ -36,7 +36,7 @@ ended (Gives u s) = record { out = s.written; status = status.Done }
 ended (Faults fault s) = record { out = s.written ++ encode_utf8_all (error_line fault); status = status.Fault }
 ended (Spends s) = record { out = s.written; status = status.Spent }
 
-abbrev pub tree_answer : Option Tree → Answer
+abbrev pub tree_answer : Option (List Stmt) → Answer
 tree_answer None = refused NotYet
 tree_answer (Some tree) = ended (evaluated tree default_steps)
 
