@@ -4,6 +4,8 @@
 mod error;
 mod front;
 mod spelling;
+#[cfg(test)]
+mod tests;
 mod word;
 mod quoted;
 mod significand;
