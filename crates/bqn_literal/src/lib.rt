@@ -3,12 +3,12 @@
 
 mod error;
 mod front;
+mod quoted;
+mod significand;
 mod spelling;
 #[cfg(test)]
 mod tests;
 mod word;
-mod quoted;
-mod significand;
 
 pub use error::NumberError;
 pub use quoted::string;

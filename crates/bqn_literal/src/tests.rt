@@ -2,6 +2,7 @@ use crate::{NumberError, number, string};
 use std::test::Fail;
 
 const BAD: Result<i64, NumberError> = Err(NumberError::Bad);
+
 const RANGE: Result<i64, NumberError> = Err(NumberError::Range);
 
 const NUMBERS: [(&str, Result<i64, NumberError>); 53] = [
