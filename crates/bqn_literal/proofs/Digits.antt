@@ -1,12 +1,12 @@
 -- What the digits that were read stand for.
-use Rattle.std.proofs.Common.{◌≡◌, ◌≤◌, ◌<◌, ◌+◌, ◌-◌, ◌*◌, ◌/◌, ◌%◌, ◌^◌, ℕ, zero, suc, Bool, true, false, cond, Option, Some, None, List, [], ◌∷◌, ◌++◌, length, refl, sym, ap, subst, ◌∙◌, arith}
-use Rattle.std.specs.Prelude.{nat_lt, ◌==◌, ◌&&◌, if◌then◌else◌, filter}
+use Rattle.std.proofs.Common.{◌≡◌, ◌≤◌, ◌<◌, ◌+◌, ◌-◌, ◌*◌, ◌%◌, ◌^◌, ℕ, Bool, true, false, cond, Option, Some, None, List, [], ◌∷◌, ◌++◌, refl, sym, ap, subst, ◌∙◌, arith}
+use Rattle.std.specs.Prelude.{nat_lt, ◌==◌, ◌&&◌, if◌then◌else◌}
 use Rattle.std.specs.List.{list_all}
 use Rattle.std.specs.Option.{option_and_then, option_map}
 use Rattle.std.proofs.lemmas.Bool.{and_parts}
 use Rattle.std.proofs.lemmas.Bool.Decides.{nat_tests}
 use Rattle.std.proofs.lemmas.Nat.{pow-add, mod-mul-add}
-use Rattle.std.proofs.Math.Nat.{mul_assoc, pow-suc}
+use Rattle.std.proofs.Math.Nat.{mul_assoc}
 use Rattle.bqn_base.specs.Characters.{is_digit}
 use Rattle.bqn_base.specs.Literal.{value_from}
 use Rattle.bqn_literal.specs.Shown.{figures}
@@ -111,8 +111,8 @@ with_digits-read (c ∷ cs) s a h =
     let p = and_parts (is_digit c) (list_all is_digit cs) a in
     let v = worth s * 10 + (c - 48) in
     read_on v (value_from v cs) cs (with_digit s (c - 48)) (with_digit-read s (c - 48) h (digit-below c p.0))
-        (value_from-wide v cs p.1)
-        (λ (t : Significand) (k : IsHeld v t). subst (λ (x : ℕ). IsRead (value_from x cs) (with_digits cs t)) k.is (with_digits-read cs t p.1 k.ends))
+    (value_from-wide v cs p.1)
+    (λ (t : Significand) (k : IsHeld v t). subst (λ (x : ℕ). IsRead (value_from x cs) (with_digits cs t)) k.is (with_digits-read cs t p.1 k.ends))
 
 value_from-append : (v : ℕ) (ds es : List ℕ) → value_from v (ds ++ es) ≡ value_from (value_from v ds) es
 value_from-append v [] es = refl
@@ -123,9 +123,9 @@ pub parts-read : (ds es : List ℕ) → list_all is_digit ds ≡ true → list_a
 parts-read ds es a b =
     let v = value_from 0 ds in
     subst (λ (x : ℕ). IsRead x (option_and_then (with_digits es) (with_digits ds nothing))) (sym (value_from-append 0 ds es))
-        (read_on v (value_from v es) es (with_digits ds nothing) (with_digits-read ds nothing a (λ h. absurd (omega arith)))
-            (value_from-wide v es b)
-            (λ (t : Significand) (k : IsHeld v t). subst (λ (x : ℕ). IsRead (value_from x es) (with_digits es t)) k.is (with_digits-read es t b k.ends)))
+    (read_on v (value_from v es) es (with_digits ds nothing) (with_digits-read ds nothing a (λ h. absurd (omega arith)))
+    (value_from-wide v es b)
+    (λ (t : Significand) (k : IsHeld v t). subst (λ (x : ℕ). IsRead (value_from x es) (with_digits es t)) k.is (with_digits-read es t b k.ends)))
 
 figure_all : (digit : Bool) (c : ℕ) (cs : List ℕ) → is_digit c ≡ digit → list_all is_digit (figures cs) ≡ true → list_all is_digit (cond digit (c ∷ figures cs) (figures cs)) ≡ true
 figure_all true c cs h a = ap (λ (b : Bool). b && list_all is_digit (figures cs)) h ∙ a

@@ -1,10 +1,10 @@
 -- The form of a number, over the parts of a word.
-use Rattle.std.proofs.Common.{◌≡◌, ◌≤◌, ◌<◌, ◌+◌, ℕ, zero, suc, Bool, true, false, cond, Option, Some, None, List, [], ◌∷◌, ◌++◌, refl, sym, ap, ◌∙◌, arith}
-use Rattle.std.specs.Prelude.{◌==◌, not, ◌&&◌, ◌||◌, if◌then◌else◌, filter}
-use Rattle.std.specs.List.{list_all, list_any}
+use Rattle.std.proofs.Common.{◌≡◌, ℕ, Bool, true, false, cond, Option, Some, None, List, [], ◌∷◌, refl, sym, ap, ◌∙◌, arith}
+use Rattle.std.specs.Prelude.{◌==◌, not, ◌&&◌, ◌||◌, if◌then◌else◌}
+use Rattle.std.specs.List.{list_all}
 use Rattle.std.proofs.lemmas.Bool.Decides.{nat_tests}
 use Rattle.bqn_base.specs.Characters.{is_digit}
-use Rattle.bqn_base.specs.Literal.{Digits, Spelled, digits_in, are_digits, with_power, with_end, with_fraction, behind_whole, with_whole, spelled, without_underscores}
+use Rattle.bqn_base.specs.Literal.{Spelled, are_digits, with_power, with_end, with_fraction, behind_whole, with_whole, without_underscores}
 use Rattle.bqn_literal.specs.Shown.{figures, has_figure}
 
 abbrev is_some : List ℕ → Bool

@@ -1,9 +1,8 @@
 -- A word with `∞` or `π` has no number form.
-use Rattle.std.proofs.Common.{◌≡◌, ◌≤◌, ◌<◌, ℕ, zero, suc, Bool, true, false, cond, Option, Some, None, List, [], ◌∷◌, refl, sym, ap, ◌∙◌, arith}
-use Rattle.std.specs.Prelude.{◌==◌, not, ◌&&◌, ◌||◌, if◌then◌else◌}
+use Rattle.std.proofs.Common.{◌≡◌, ℕ, Bool, true, false, cond, Option, Some, None, List, [], ◌∷◌, refl, ap, ◌∙◌, arith}
+use Rattle.std.specs.Prelude.{◌==◌, not, ◌||◌, if◌then◌else◌}
 use Rattle.std.specs.List.{list_any, list_all}
 use Rattle.std.proofs.lemmas.Bool.{and_parts, eqb-true, ne_eqb}
-use Rattle.std.proofs.lemmas.Bool.Decides.{nat_tests}
 use Rattle.bqn_base.specs.Characters.{is_digit}
 use Rattle.bqn_base.specs.Literal.{Spelled, Digits, digits_in, onto_digits, are_digits, with_power, with_end, with_fraction, behind_whole, with_whole, spelled, without_underscores, is_past_numbers}
 use Rattle.bqn_literal.proofs.Forms.{power_case, all-are_digits}

@@ -1,7 +1,6 @@
 -- Digits are read one at a time.
-use Rattle.std.proofs.Common.{◌≡◌, ◌≤◌, ◌<◌, ◌+◌, ◌-◌, ◌*◌, ◌^◌, ℕ, zero, suc, Bool, true, false, cond, Option, Some, None, inl, inr, List, [], ◌∷◌, ◌++◌, length, drop, get_or, drop-cons, refl, sym, ap, ◌∙◌, arith, add-one}
+use Rattle.std.proofs.Common.{◌≡◌, ◌≤◌, ◌<◌, ◌+◌, ◌-◌, ◌*◌, ℕ, suc, Bool, true, false, cond, inl, inr, List, [], ◌∷◌, length, drop, get_or, drop-cons, sym, ap, ◌∙◌, arith, add-one}
 use Rattle.std.specs.Prelude.{min, nat_le, ◌⊎◌}
-use Rattle.std.specs.Option.{option_and_then}
 use Rattle.std.proofs.lemmas.Bool.{cases_lt, leb-true, and_parts}
 use Rattle.std.proofs.lemmas.List.{get_or_read}
 use Rattle.std.proofs.Math.ListN.{drop_of_length-le}
@@ -9,8 +8,7 @@ use Rattle.std.proofs.Math.Nat.{min-eq_left, min-eq_right}
 use Rattle.bqn_base.specs.Characters.{is_digit}
 use Rattle.bqn_base.specs.Literal.{value_from}
 use Rattle.bqn_literal.specs.Shown.{figures}
-use Rattle.bqn_literal.specs.Values.{with_digit, with_digits, limit}
-use Rattle.bqn_literal.specs.declared.significand.Significand.{Significand}
+use Rattle.bqn_literal.specs.Values.{limit}
 
 pub figures_from-digit : (cs : List ℕ) (i : ℕ) → i < length cs → is_digit (get_or cs i 0) ≡ true → figures (drop i cs) ≡ get_or cs i 0 ∷ figures (drop (i + 1) cs)
 figures_from-digit cs i lt h =

@@ -1,5 +1,5 @@
 -- What the digits and the power of a spelling give.
-use Rattle.std.proofs.Common.{◌≡◌, ◌≤◌, ◌<◌, ◌+◌, ◌-◌, ◌*◌, ◌%◌, ◌^◌, ℕ, zero, suc, Bool, true, false, Option, Some, None, List, [], ◌∷◌, ◌++◌, length, refl, sym, ap, subst, ◌∙◌, arith}
+use Rattle.std.proofs.Common.{◌≡◌, ◌≤◌, ◌<◌, ◌+◌, ◌*◌, ◌%◌, ◌^◌, ℕ, Bool, true, false, Option, Some, None, ◌++◌, length, refl, sym, ap, subst, ◌∙◌, arith}
 use Rattle.std.specs.Prelude.{◌==◌, min, if◌then◌else◌}
 use Rattle.std.specs.List.{list_all}
 use Rattle.std.specs.Option.{option_and_then}
@@ -9,7 +9,7 @@ use Rattle.bqn_base.specs.Literal.{Spelled, scaled, value_from, magnitude}
 use Rattle.bqn_literal.specs.Values.{small, placed, nothing, with_digits, scaled_to, limit}
 use Rattle.bqn_literal.specs.declared.significand.Significand.{Significand}
 use Rattle.bqn_literal.proofs.Scaling.{scaled-placed, placed-wide, placed-up_limit, placed-down_limit}
-use Rattle.bqn_literal.proofs.Digits.{worth, IsWide, IsHeld, IsRead, parts-read}
+use Rattle.bqn_literal.proofs.Digits.{IsWide, IsHeld, IsRead, parts-read}
 
 scaled-wide : (v up down : ℕ) → IsWide v → option_and_then small (scaled v up down) ≡ None
 scaled-wide v up down w =
@@ -45,10 +45,10 @@ down_by down power = if down then power else 0
 scaled_power : (v power places : ℕ) (down : Bool) (s : Significand) → IsHeld v s → s.zeros ≤ 2 ^ 66 → places ≤ 2 ^ 64 → option_and_then small (scaled v (up_by down power) (places + down_by down power)) ≡ scaled_to s (up_by down (min power limit)) (places + down_by down (min power limit))
 scaled_power v power places true s h few short =
     scaled_held v 0 (places + power) 0 (places + min power limit) s h
-        (λ some. ap (option_and_then small) (sym (placed-down_limit s.magnitude (s.zeros + 0) power places (omega arith))))
+    (λ some. ap (option_and_then small) (sym (placed-down_limit s.magnitude (s.zeros + 0) power places (omega arith))))
 scaled_power v power places false s h few short =
     scaled_held v power (places + 0) (min power limit) (places + 0) s h
-        (λ some. sym (placed-up_limit s.magnitude s.zeros power (places + 0) some (omega arith)))
+    (λ some. sym (placed-up_limit s.magnitude s.zeros power (places + 0) some (omega arith)))
 
 abbrev read_parts : Spelled → Option Significand
 read_parts s = option_and_then (with_digits s.fraction) (with_digits s.whole nothing)

@@ -1,15 +1,14 @@
 -- What a word denotes, by its form and its size.
-use Rattle.std.proofs.Common.{◌≡◌, ◌≤◌, ◌<◌, ◌+◌, ◌^◌, ℕ, zero, suc, ℤ, pos, negsuc, Bool, true, false, cond, Option, Some, None, Result, Ok, Err, List, [], ◌∷◌, ◌++◌, length, drop, get_or, drop-cons, refl, sym, ap, ◌∙◌, arith, add-one}
-use Rattle.std.specs.Prelude.{◌==◌, not, ◌&&◌, ◌||◌, nat_lt, neg_ℤ, FitsSigned, if◌then◌else◌}
-use Rattle.std.specs.List.{list_any, list_all}
+use Rattle.std.proofs.Common.{◌≡◌, ◌≤◌, ◌<◌, ◌+◌, ◌^◌, ℕ, zero, suc, ℤ, pos, negsuc, Bool, true, false, Option, Some, None, Result, Ok, Err, List, length, drop, get_or, drop-cons, refl, sym, ap, ◌∙◌, arith, add-one}
+use Rattle.std.specs.Prelude.{◌||◌, nat_lt, FitsSigned, if◌then◌else◌}
+use Rattle.std.specs.List.{list_any}
 use Rattle.std.specs.Int.{w64}
 use Rattle.std.specs.Option.{option_and_then}
 use Rattle.std.specs.Result.{OkIff}
 use Rattle.std.proofs.lemmas.Bool.Decides.{nat_tests}
 use Rattle.std.proofs.Math.ListN.{drop_of_length-le}
 use Rattle.bqn_base.specs.Arithmetic.{fits}
-use Rattle.bqn_base.specs.Characters.{is_digit}
-use Rattle.bqn_base.specs.Literal.{Literal, Number, Bad, Range, Spelled, Digits, digits_in, onto_digits, are_digits, with_power, with_end, with_fraction, behind_whole, with_whole, spelled, magnitude, in_64_bits, with_sign, spelled_literal, without_underscores, is_past_numbers, literal}
+use Rattle.bqn_base.specs.Literal.{Literal, Number, Range, Spelled, spelled, magnitude, in_64_bits, with_sign, spelled_literal, without_underscores, is_past_numbers, literal}
 use Rattle.bqn_literal.specs.Results.{number_of}
 use Rattle.bqn_literal.specs.Values.{small}
 use Rattle.bqn_literal.proofs.Past.{spelled-no_past}

@@ -1,5 +1,5 @@
 -- What parts of a word show, whose underscores still stand in them.
-use Rattle.std.specs.Prelude.{ℕ, Bool, true, false, List, [], ◌∷◌, filter, take, drop}
+use Rattle.std.specs.Prelude.{ℕ, Bool, List, filter, take, drop}
 use Rattle.std.specs.List.{list_any}
 use Rattle.bqn_base.specs.Characters.{is_digit}
 use Rattle.bqn_base.specs.Literal.{Digits, without_underscores}

@@ -3,10 +3,12 @@
 
 mod error;
 mod front;
-mod spelling;
-mod word;
 mod quoted;
 mod significand;
+mod spelling;
+#[cfg(test)]
+mod tests;
+mod word;
 
 pub use error::NumberError;
 pub use quoted::string;

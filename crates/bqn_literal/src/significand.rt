@@ -24,6 +24,9 @@ fn shifted(magnitude: u64, zeros: u128) -> Option<u64>
     requires { 0 < magnitude }
     ensures { result ≡ small (magnitude * 10 ^ zeros) }
 {
+    if zeros == 1 {
+        return magnitude.checked_mul(10);
+    }
     let exponent = u32::try_from(zeros).ok()?;
     let factor = 10u64.checked_pow(exponent)?;
     magnitude.checked_mul(factor)
@@ -34,7 +37,10 @@ impl Significand {
     pub(crate) fn new() -> Significand
         ensures { result ≡ nothing }
     {
-        Significand { magnitude: 0, zeros: 0 }
+        Significand {
+            magnitude: 0,
+            zeros: 0,
+        }
     }
 
     /// With one more digit, if the digits up to the last that is not zero fit 64 bits.
@@ -44,13 +50,22 @@ impl Significand {
         ensures { result ≡ with_digit self digit }
     {
         if self.magnitude == 0 {
-            return Some(Significand { magnitude: digit, zeros: 0 });
+            return Some(Significand {
+                magnitude: digit,
+                zeros: 0,
+            });
         }
         if digit == 0 {
-            return Some(Significand { magnitude: self.magnitude, zeros: self.zeros + 1 });
+            return Some(Significand {
+                magnitude: self.magnitude,
+                zeros: self.zeros + 1,
+            });
         }
         let magnitude = shifted(self.magnitude, self.zeros + 1)?.checked_add(digit)?;
-        Some(Significand { magnitude, zeros: 0 })
+        Some(Significand {
+            magnitude,
+            zeros: 0,
+        })
     }
 
     /// With the digits of a part, if the digits up to the last that is not zero fit 64 bits.

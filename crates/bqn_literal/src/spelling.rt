@@ -33,12 +33,24 @@ fn read_power<'a>(
         if !is_all_digits(behind) {
             return None;
         }
-        return Some(Spelling { negative, whole, fraction, down: true, power: behind });
+        return Some(Spelling {
+            negative,
+            whole,
+            fraction,
+            down: true,
+            power: behind,
+        });
     }
     if !is_all_digits(word) {
         return None;
     }
-    Some(Spelling { negative, whole, fraction, down: false, power: word })
+    Some(Spelling {
+        negative,
+        whole,
+        fraction,
+        down: false,
+        power: word,
+    })
 }
 
 /// Nothing more, or an `e` and a power.
@@ -52,7 +64,13 @@ fn read_end<'a>(
     ensures { found result ≡ with_end negative (figures whole.now) (figures fraction.now) (without_underscores word.now) }
 {
     match split_first(word) {
-        None => Some(Spelling { negative, whole, fraction, down: false, power: word }),
+        None => Some(Spelling {
+            negative,
+            whole,
+            fraction,
+            down: false,
+            power: word,
+        }),
         Some(('e' | 'E', power)) => read_power(negative, whole, fraction, power),
         Some(_) => None,
     }

@@ -1,4 +1,4 @@
-use Rattle.std.proofs.Common.{rules, sym, ◌∙◌, arith}
+use Rattle.std.proofs.Common.{sym, ◌∙◌, arith}
 use Rattle.bqn_literal.proofs.Reading.{power-step}
 use Rattle.bqn_literal.proofs.significand.power_of.Goals as goal
 

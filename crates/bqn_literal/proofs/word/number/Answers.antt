@@ -1,4 +1,4 @@
-use Rattle.std.proofs.Common.{◌≡◌, ℕ, Option, Some, None, sym, ap, ◌∙◌}
+use Rattle.std.proofs.Common.{ℕ, Option, sym, ap, ◌∙◌}
 use Rattle.bqn_base.specs.Literal.{with_sign}
 use Rattle.bqn_literal.specs.Results.{number_of}
 use Rattle.bqn_literal.specs.Spellings.{shown}
