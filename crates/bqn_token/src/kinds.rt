@@ -85,6 +85,7 @@ fn numeric(word: &[char], place: Place) -> Result<Option<Kind>, TokenError>
 }
 
 /// What a character that is a piece by itself stands for.
+#[inline(always)]
 fn single(c: char) -> Kind
     ensures { result ≡ single_kind c }
 {

@@ -103,6 +103,7 @@ fn late_code(c: char) -> Option<u8>
 }
 
 /// The code of a primitive, if the character is one: its place among them.
+#[inline(always)]
 pub(crate) fn primitive_code(c: char) -> Option<u8>
     ensures { result ≡ position (λ d. d == c) primitives }
 {
