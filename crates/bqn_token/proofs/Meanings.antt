@@ -1,15 +1,14 @@
 -- What a piece stands for, case by case.
-use Rattle.std.proofs.Common.{◌≡◌, ℕ, ℤ, List, [], ◌∷◌, Bool, true, false, Option, Some, None, Result, Ok, Err, refl, sym, ap, ◌∙◌}
-use Rattle.std.specs.Prelude.{◌==◌, ◌||◌, if◌then◌else◌, position}
+use Rattle.std.proofs.Common.{◌≡◌, ℕ, ℤ, [], ◌∷◌, Bool, false, Option, Some, None, Ok, Err, refl, ap, ◌∙◌}
+use Rattle.std.specs.Prelude.{◌==◌, if◌then◌else◌, position}
 use Rattle.std.specs.Option.{option_map}
 use Rattle.bqn_base.specs.declared.place.Place.{Place}
-use Rattle.bqn_base.specs.declared.refusal.Refusal.{Refusal}
 use Rattle.bqn_base.specs.declared.refusal.Refusal.TheVariants as refusal
 use Rattle.bqn_base.specs.Literal.{Literal, Number, Bad, Range}
 use Rattle.bqn_syntax.specs.declared.token.Special.{Special}
 use Rattle.bqn_syntax.specs.declared.token.Kind.{Kind}
 use Rattle.bqn_syntax.specs.declared.token.Kind.TheVariants as kind
-use Rattle.bqn_syntax.specs.Tokens.{Trouble, number_kind, single_kind, kind_of}
+use Rattle.bqn_syntax.specs.Tokens.{number_kind, single_kind}
 use Rattle.bqn_syntax.specs.Words.{special_of, role_of}
 use Rattle.bqn_token.specs.Singles.{primitives}
 use Rattle.bqn_token.specs.Tokenizing.{placed}
@@ -37,9 +36,9 @@ abbrev single_if : Bool → Option Special → Option ℕ → ℕ → Kind
 single_if at_sign name code c =
     if at_sign then kind.Char 0
     else elim name [
-        Some n ↦ kind.Special n (role_of (c ∷ []))
+      | Some n ↦ kind.Special n (role_of (c ∷ []))
       | None ↦ elim (option_map (λ n. kind.Given n) code) [ Some k ↦ k | None ↦ kind.Punct c ]
-      ]
+    ]
 
 single_kind-cases : (c : ℕ) (name : Option Special) (code : Option ℕ) → (c == 64) ≡ false → special_of c ≡ name → position (λ d. d == c) primitives ≡ code → single_kind c ≡ single_if false name code c
 single_kind-cases c name code at_sign n p =

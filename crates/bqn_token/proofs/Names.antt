@@ -1,12 +1,12 @@
 -- How words spell names.
 use Rattle.std.proofs.Common.{◌≡◌, ◌≤◌, ◌<◌, ◌+◌, ℕ, suc, List, [], ◌∷◌, Bool, true, false, length, drop, get_or, drop-cons, refl, sym, ap, ◌∙◌, arith, add-one}
-use Rattle.std.specs.Prelude.{nat_le, cond, not, ◌==◌, ◌&&◌, ◌||◌, if◌then◌else◌, map, filter, IsTrue}
+use Rattle.std.specs.Prelude.{cond, not, ◌==◌, ◌&&◌, if◌then◌else◌, map, filter}
 use Rattle.std.specs.List.{list_all}
 use Rattle.std.proofs.Math.ListN.{drop_of_length-le}
 use Rattle.std.proofs.lemmas.Bool.{eqb-true}
 use Rattle.std.proofs.lemmas.Bool.Decides.{nat_tests}
 use Rattle.bqn_base.specs.Names.{is_name_character as is_plain}
-use Rattle.bqn_base.specs.Characters.{is_digit, is_lower, is_upper, is_letter}
+use Rattle.bqn_base.specs.Characters.{is_upper, is_letter}
 use Rattle.bqn_syntax.specs.Words.{begins_with_letter, is_name_character, lower_case, name_of}
 
 abbrev letter_if : Bool → ℕ → List ℕ → Bool
@@ -68,7 +68,7 @@ plain-name_of [] is = refl
 plain-name_of (c ∷ cs) is = at (c == 95) refl (plain-name_of cs (both-right (is_name_character c) (list_all is_name_character cs) is))
   where
     at : (under : Bool) → (c == 95) ≡ under → list_all is_plain (name_of cs) ≡ true
-       → list_all is_plain (map lower_case (cond (not under) (c ∷ filter (λ d. not (d == 95)) cs) (filter (λ d. not (d == 95)) cs))) ≡ true
+        → list_all is_plain (map lower_case (cond (not under) (c ∷ filter (λ d. not (d == 95)) cs) (filter (λ d. not (d == 95)) cs))) ≡ true
     at true e rest = rest
     at false e rest = ap (λ (b : Bool). b && list_all is_plain (name_of cs)) (lower_case-plain c (both-left (is_name_character c) (list_all is_name_character cs) is) e) ∙ rest
 

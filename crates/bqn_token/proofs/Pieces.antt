@@ -1,7 +1,7 @@
 -- The tokens of a text, piece by piece.
-use Rattle.std.proofs.Common.{◌≡◌, ◌≤◌, ◌<◌, ◌+◌, ◌-◌, ℕ, zero, suc, List, [], ◌∷◌, ◌++◌, Bool, true, false, Option, Some, None, Result, Ok, Err, length, take, drop, slice_get, refl, sym, ap, ◌∙◌, subst, arith, append_assoc}
+use Rattle.std.proofs.Common.{◌≡◌, ◌≤◌, ◌+◌, ◌-◌, ℕ, zero, suc, List, [], ◌∷◌, ◌++◌, Bool, true, false, Option, Some, None, Result, Ok, Err, length, take, drop, slice_get, refl, sym, ap, ◌∙◌, arith, append_assoc}
 use Rattle.std.specs.Prelude.{◌==◌, if◌then◌else◌}
-use Rattle.std.proofs.lemmas.List.{append-nil, length-take}
+use Rattle.std.proofs.lemmas.List.{append-nil}
 use Rattle.bqn_base.specs.declared.place.Place.{Place}
 use Rattle.bqn_base.specs.declared.refusal.Refusal.{Refusal}
 use Rattle.bqn_syntax.specs.declared.progress.Progress.TheVariants.{Start}
@@ -10,7 +10,7 @@ use Rattle.bqn_syntax.specs.declared.token.Token.{Token}
 use Rattle.bqn_syntax.specs.Table.{is_piece}
 use Rattle.bqn_syntax.specs.Cut.{longest}
 use Rattle.bqn_syntax.specs.Text.{text_of}
-use Rattle.bqn_syntax.specs.Tokens.{Trouble, refused_at, no_piece, kind_of, past, behind, with_kind, tokens_behind, tokens_of_text, tokens_of_source, first_place}
+use Rattle.bqn_syntax.specs.Tokens.{Trouble, refused_at, no_piece, kind_of, behind, with_kind, tokens_behind, tokens_of_text, tokens_of_source}
 use Rattle.bqn_syntax.proofs.Longest.{longest-first}
 use Rattle.bqn_token.specs.declared.error.TokenError.{TokenError}
 use Rattle.bqn_token.specs.declared.error.TokenError.TheVariants.{Refused, Memory}
@@ -49,9 +49,9 @@ tokens-cons : (place : Place) (c : ℕ) (cs : List ℕ) → tokens_behind 0 plac
 tokens-cons place c cs = at (longest Start (c ∷ cs))
   where
     at : (count : Option ℕ) → (elim count as (λ _. Result (List Token) Refusal) [
-        | None ↦ Err (refused_at (no_piece c) place)
-        | Some n ↦ with_kind (kind_of (take n (c ∷ cs))) place (tokens_behind (n - 1) (behind (take n (c ∷ cs)) place) cs)
-      ]) ≡ tokens_with count place c cs
+      | None ↦ Err (refused_at (no_piece c) place)
+      | Some n ↦ with_kind (kind_of (take n (c ∷ cs))) place (tokens_behind (n - 1) (behind (take n (c ∷ cs)) place) cs)
+    ]) ≡ tokens_with count place c cs
     at None = refl
     at (Some n) = refl
 
@@ -62,7 +62,7 @@ rest-behind (suc count) place c cs some =
     ap (λ (n : ℕ). tokens_behind n place cs) less ∙ tokens_behind-drop count place cs
 
 tokens-piece : (place : Place) (text : List ℕ) (count : ℕ) → longest Start text ≡ Some count
-   → tokens_behind 0 place text ≡ with_kind (kind_of (take count text)) place (tokens_behind 0 (behind (take count text) place) (drop count text))
+    → tokens_behind 0 place text ≡ with_kind (kind_of (take count text)) place (tokens_behind 0 (behind (take count text) place) (drop count text))
 tokens-piece place [] count e = cc
 tokens-piece place (c ∷ cs) count e =
     tokens-cons place c cs
@@ -91,25 +91,25 @@ placed-err place (Ok kind) refusal r e = cc
 placed-err place (Err trouble) refusal r e = let same : refused_at trouble place ≡ refusal = cc in ap (λ (s : Refusal). Err s) same
 
 pub tokens-nothing : (front : List Token) (place : Place) (text : List ℕ) (count : ℕ) → longest Start text ≡ Some count → placed place (kind_of (take count text)) ≡ Ok None
-   → onto front (tokens_behind 0 place text) ≡ onto front (tokens_behind 0 (behind (take count text) place) (drop count text))
+    → onto front (tokens_behind 0 place text) ≡ onto front (tokens_behind 0 (behind (take count text) place) (drop count text))
 tokens-nothing front place text count e k =
     ap (λ (r : Result (List Token) Refusal). onto front r)
-      (tokens-piece place text count e ∙ placed-nothing place (kind_of (take count text)) (tokens_behind 0 (behind (take count text) place) (drop count text)) k)
+    (tokens-piece place text count e ∙ placed-nothing place (kind_of (take count text)) (tokens_behind 0 (behind (take count text) place) (drop count text)) k)
 
 pub tokens-token : (front : List Token) (place : Place) (text : List ℕ) (count : ℕ) (k : Kind) → longest Start text ≡ Some count → placed place (kind_of (take count text)) ≡ Ok (Some k)
-   → onto front (tokens_behind 0 place text) ≡ onto (front ++ record { kind = k; place = place } ∷ []) (tokens_behind 0 (behind (take count text) place) (drop count text))
+    → onto front (tokens_behind 0 place text) ≡ onto (front ++ record { kind = k; place = place } ∷ []) (tokens_behind 0 (behind (take count text) place) (drop count text))
 tokens-token front place text count k e is =
     ap (λ (r : Result (List Token) Refusal). onto front r) (tokens-piece place text count e)
     ∙ placed-token front place (kind_of (take count text)) k (tokens_behind 0 (behind (take count text) place) (drop count text)) is
 
 pub tokens-refused : (front : List Token) (place : Place) (text : List ℕ) (count : ℕ) (refusal : Refusal) → longest Start text ≡ Some count → placed place (kind_of (take count text)) ≡ Err refusal
-   → onto front (tokens_behind 0 place text) ≡ Err refusal
+    → onto front (tokens_behind 0 place text) ≡ Err refusal
 tokens-refused front place text count refusal e is =
     ap (λ (r : Result (List Token) Refusal). onto front r)
-      (tokens-piece place text count e ∙ placed-err place (kind_of (take count text)) refusal (tokens_behind 0 (behind (take count text) place) (drop count text)) is)
+    (tokens-piece place text count e ∙ placed-err place (kind_of (take count text)) refusal (tokens_behind 0 (behind (take count text) place) (drop count text)) is)
 
 pub tokens-stuck : (front : List Token) (place : Place) (text : List ℕ) (c : ℕ) → slice_get text 0 ≡ Some c → longest Start text ≡ None
-   → onto front (tokens_behind 0 place text) ≡ Err (refused_at (no_piece c) place)
+    → onto front (tokens_behind 0 place text) ≡ Err (refused_at (no_piece c) place)
 tokens-stuck front place [] c at e = cc
 tokens-stuck front place (d ∷ ds) c at e =
     let same : d ≡ c = cc in
@@ -126,7 +126,7 @@ some_left (c ∷ cs) d e = omega arith
 
 -- an error at a piece is the error of the whole
 pub error-at : (whole : Result (List Token) Refusal) (front : List Token) (place : Place) (text : List ℕ) (count : ℕ) (error : TokenError) → onto front (tokens_behind 0 place text) ≡ whole → longest Start text ≡ Some count
-   → Gives (placed place (kind_of (take count text))) (Err error) → Tokenizes whole (Err error)
+    → Gives (placed place (kind_of (take count text))) (Err error) → Tokenizes whole (Err error)
 error-at whole front place text count (Refused r) same e is = sym same ∙ tokens-refused front place text count r e is
 error-at whole front place text count Memory same e is = tt
 
@@ -136,7 +136,7 @@ line-behind [] place = omega arith
 line-behind (c ∷ cs) place = at (c == 10) (λ p. line-behind cs p)
   where
     at : (feed : Bool) → ((p : Place) → (behind cs p).line ≤ p.line + length cs)
-       → (behind cs (if feed then record { line = place.line + 1; column = 1 } else record { line = place.line; column = place.column + 1 })).line ≤ place.line + length (c ∷ cs)
+        → (behind cs (if feed then record { line = place.line + 1; column = 1 } else record { line = place.line; column = place.column + 1 })).line ≤ place.line + length (c ∷ cs)
     at true rest = let le = rest (record { line = place.line + 1; column = 1 }) in omega arith
     at false rest = let le = rest (record { line = place.line; column = place.column + 1 }) in omega arith
 
@@ -145,7 +145,7 @@ column-behind [] place = omega arith
 column-behind (c ∷ cs) place = at (c == 10) (λ p. column-behind cs p)
   where
     at : (feed : Bool) → ((p : Place) → (behind cs p).column ≤ p.column + length cs)
-       → (behind cs (if feed then record { line = place.line + 1; column = 1 } else record { line = place.line; column = place.column + 1 })).column ≤ place.column + length (c ∷ cs)
+        → (behind cs (if feed then record { line = place.line + 1; column = 1 } else record { line = place.line; column = place.column + 1 })).column ≤ place.column + length (c ∷ cs)
     at true rest = let le = rest (record { line = place.line + 1; column = 1 }) in omega arith
     at false rest = let le = rest (record { line = place.line; column = place.column + 1 }) in omega arith
 
@@ -156,4 +156,5 @@ pub tokens-err : (bytes : List ℕ) (r : Refusal) → text_of bytes ≡ Err r �
 tokens-err bytes r e = ap (λ (r : Result (List ℕ) Refusal). elim r as (λ _. Result (List Token) Refusal) [ Ok t ↦ tokens_of_text t | Err s ↦ Err s ]) e
 
 pub ruleset cut_laws = (onto-nil, longest-some, longest-inside, longest-piece, tokens-nothing, tokens-token, tokens-stuck, tokens-end, some_left, line-behind, column-behind)
+
 pub ruleset source_laws = (tokens-ok, tokens-err)

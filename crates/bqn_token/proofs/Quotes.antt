@@ -4,7 +4,7 @@ use Rattle.std.specs.Prelude.{not, ◌==◌, ◌&&◌, if◌then◌else◌, Opti
 use Rattle.bqn_base.specs.Literal.{is_doubled}
 use Rattle.bqn_syntax.specs.declared.progress.Progress.{Progress}
 use Rattle.bqn_syntax.specs.declared.progress.Progress.TheVariants.{Inside, Closed}
-use Rattle.bqn_syntax.specs.Table.{next, is_final, is_piece_from}
+use Rattle.bqn_syntax.specs.Table.{next, is_piece_from}
 use Rattle.bqn_syntax.specs.Tokens.{all_but_last}
 
 all_but_last-push : (front : List ℕ) (c : ℕ) → all_but_last (front ++ c ∷ []) ≡ front
@@ -56,9 +56,9 @@ is_doubled-quotes c d cs e f rest =
 
 -- a text of three characters or more, from the rest of it behind one character and behind two
 doubled-step : (c d x : ℕ) (cs : List ℕ) (first second : Bool) → (c == 34) ≡ first → (d == 34) ≡ second → is_piece_from Inside (c ∷ d ∷ x ∷ cs) ≡ true
-   → (is_piece_from Inside (d ∷ x ∷ cs) ≡ true → is_doubled (d ∷ all_but_last (x ∷ cs)) ≡ true)
-   → (is_piece_from Inside (x ∷ cs) ≡ true → is_doubled (all_but_last (x ∷ cs)) ≡ true)
-   → is_doubled (c ∷ d ∷ all_but_last (x ∷ cs)) ≡ true
+    → (is_piece_from Inside (d ∷ x ∷ cs) ≡ true → is_doubled (d ∷ all_but_last (x ∷ cs)) ≡ true)
+    → (is_piece_from Inside (x ∷ cs) ≡ true → is_doubled (all_but_last (x ∷ cs)) ≡ true)
+    → is_doubled (c ∷ d ∷ all_but_last (x ∷ cs)) ≡ true
 doubled-step c d x cs true true e f is one two =
     is_doubled-quotes c d (all_but_last (x ∷ cs)) e f (two (sym (inside-quote c (d ∷ x ∷ cs) e ∙ closed-quote d (x ∷ cs) f) ∙ is))
 doubled-step c d x cs true false e f is one two = let never = sym (inside-quote c (d ∷ x ∷ cs) e ∙ closed-other d (x ∷ cs) f) ∙ is in cc

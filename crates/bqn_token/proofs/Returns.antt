@@ -55,7 +55,7 @@ without_returns-push (y ∷ []) c = with_character-one y c
 without_returns-push (y ∷ z ∷ zs) c = at (is_dropped y (z ∷ zs)) (without_returns-push (z ∷ zs) c)
   where
     at : (dropped : Bool) → without_returns ((z ∷ zs) ++ c ∷ []) ≡ with_character (without_returns (z ∷ zs)) c
-       → kept_if dropped y (without_returns ((z ∷ zs) ++ c ∷ [])) ≡ with_character (kept_if dropped y (without_returns (z ∷ zs))) c
+        → kept_if dropped y (without_returns ((z ∷ zs) ++ c ∷ [])) ≡ with_character (kept_if dropped y (without_returns (z ∷ zs))) c
     at true e = e
     at false e = ap (λ (w : List ℕ). y ∷ w) e ∙ sym (with_character-cons y c (without_returns (z ∷ zs)) (some_kept z zs))
 

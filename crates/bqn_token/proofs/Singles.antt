@@ -1,13 +1,12 @@
 -- A character is searched among those of its part.
-use Rattle.std.proofs.Common.{◌≡◌, ◌≤◌, ◌<◌, ◌+◌, ℕ, zero, suc, List, [], ◌∷◌, ◌++◌, Bool, true, false, Option, Some, None, length, refl, sym, ap, ◌∙◌, arith}
+use Rattle.std.proofs.Common.{◌≡◌, ◌≤◌, ◌<◌, ◌+◌, ℕ, suc, List, [], ◌∷◌, Bool, true, false, Option, Some, None, length, refl, sym, ap, ◌∙◌, arith}
 use Rattle.std.specs.Prelude.{nat_le, nat_lt, cond, not, ◌==◌, ◌||◌, ◌&&◌, position}
 use Rattle.std.specs.Option.{is_some}
-use Rattle.std.specs.List.{list_any, position_or_len}
-use Rattle.std.proofs.Math.Bool.{or_assoc}
+use Rattle.std.specs.List.{position_or_len}
 use Rattle.std.proofs.lemmas.Bool.{eqb-true}
 use Rattle.std.proofs.lemmas.Bool.Decides.{nat_tests}
 use Rattle.std.proofs.lemmas.List.Folds.{list_any-append}
-use Rattle.bqn_syntax.specs.Table.{is_one_of, singles, primitive_functions, primitive_modifiers}
+use Rattle.bqn_syntax.specs.Table.{is_one_of, singles}
 use Rattle.bqn_token.specs.Singles.{primitives, marks, is_mark, place_between}
 
 -- the place of a character, counted on from a number
@@ -35,7 +34,7 @@ place_from-counted [] count c = refl
 place_from-counted (d ∷ ds) count c = at (d == c) (place_from-counted ds (count + 1) c)
   where
     at : (same : Bool) → counted (count + 1) (position_or_len (λ x. x == c) ds) (length ds) ≡ place_from (count + 1) ds c
-       → counted count (cond (not same) (1 + position_or_len (λ x. x == c) ds) 0) (suc (length ds)) ≡ cond same (Some count) (place_from (count + 1) ds c)
+        → counted count (cond (not same) (1 + position_or_len (λ x. x == c) ds) 0) (suc (length ds)) ≡ cond same (Some count) (place_from (count + 1) ds c)
     at true e = counted-first count (length ds)
     at false e = counted-more count (position_or_len (λ x. x == c) ds) (length ds) ∙ e
 
@@ -58,7 +57,7 @@ place_from-between first last c inside count [] = refl
 place_from-between first last c inside count (d ∷ ds) = at (within first last d) refl (place_from-between first last c inside (count + 1) ds)
   where
     at : (in_it : Bool) → within first last d ≡ in_it → place_from (count + 1) ds c ≡ place_between first last (count + 1) ds c
-       → cond (d == c) (Some count) (place_from (count + 1) ds c) ≡ cond in_it (cond (d == c) (Some count) (place_between first last (count + 1) ds c)) (place_between first last (count + 1) ds c)
+        → cond (d == c) (Some count) (place_from (count + 1) ds c) ≡ cond in_it (cond (d == c) (Some count) (place_between first last (count + 1) ds c)) (place_between first last (count + 1) ds c)
     at true is e = ap (λ (o : Option ℕ). cond (d == c) (Some count) o) e
     at false is e = ap (λ (b : Bool). cond b (Some count) (place_from (count + 1) ds c)) (left_out (within first last) c d (d == c) refl inside is) ∙ e
 

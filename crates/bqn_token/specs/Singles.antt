@@ -20,5 +20,5 @@ abbrev pub place_between : (first last : ℕ) → ℕ → List ℕ → ℕ → O
 place_between first last count [] c = None
 place_between first last count (d ∷ ds) c =
     cond (nat_le first d && nat_lt d last)
-      (cond (d == c) (Some count) (place_between first last (count + 1) ds c))
-      (place_between first last (count + 1) ds c)
+    (cond (d == c) (Some count) (place_between first last (count + 1) ds c))
+    (place_between first last (count + 1) ds c)

@@ -85,7 +85,7 @@ fn numeric(word: &[char], place: Place) -> Result<Option<Kind>, TokenError>
 }
 
 /// What a character that is a piece by itself stands for.
-
+#[inline(always)]
 fn single(c: char) -> Kind
     ensures { result ≡ single_kind c }
 {
@@ -106,7 +106,6 @@ fn single(c: char) -> Kind
 /// # Errors
 ///
 /// The refusal of a bad word, and want of memory.
-
 pub(crate) fn kind_at(
     alloc: Global,
     piece: &[char],

@@ -103,6 +103,7 @@ fn late_code(c: char) -> Option<u8>
 }
 
 /// The code of a primitive, if the character is one: its place among them.
+#[inline(always)]
 pub(crate) fn primitive_code(c: char) -> Option<u8>
     ensures { result ≡ position (λ d. d == c) primitives }
 {
@@ -119,9 +120,39 @@ fn is_a_mark(c: char) -> bool
     ensures { result ≡ is_mark c }
 {
     match c {
-        ' ' | '\t' | '\n' | '←' | '⇐' | '↩' | '(' | ')' | '{' | '}' | '⟨' | '⟩' | '[' | ']'
-        | '‿' | '·' | '⋄' | ',' | '.' | ';' | ':' | '?' | '@' | '𝕨' | '𝕩' | '𝕤' | '𝕗' | '𝕘'
-        | '𝕎' | '𝕏' | '𝕊' | '𝔽' | '𝔾' => true,
+        ' '
+        | '\t'
+        | '\n'
+        | '←'
+        | '⇐'
+        | '↩'
+        | '('
+        | ')'
+        | '{'
+        | '}'
+        | '⟨'
+        | '⟩'
+        | '['
+        | ']'
+        | '‿'
+        | '·'
+        | '⋄'
+        | ','
+        | '.'
+        | ';'
+        | ':'
+        | '?'
+        | '@'
+        | '𝕨'
+        | '𝕩'
+        | '𝕤'
+        | '𝕗'
+        | '𝕘'
+        | '𝕎'
+        | '𝕏'
+        | '𝕊'
+        | '𝔽'
+        | '𝔾' => true,
         _ => false,
     }
 }

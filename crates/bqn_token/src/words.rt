@@ -63,7 +63,8 @@ fn is_a_name_word(word: &[char]) -> bool
 fn is_spelled_plainly(word: &[char]) -> bool
     ensures { result ≡ list_all is_plain word.now }
 {
-    word.iter().all(|c| c.is_ascii_lowercase() || is_a_digit(*c))
+    word.iter()
+        .all(|c| c.is_ascii_lowercase() || is_a_digit(*c))
 }
 
 fn lower(c: char) -> char
