@@ -83,8 +83,8 @@ scaled (suc n) up down =
 abbrev pub magnitude : Spelled → Option ℕ
 magnitude s =
     scaled (value_from 0 (s.whole ++ s.fraction))
-        (if s.down then 0 else value_from 0 s.power)
-        (length s.fraction + (if s.down then value_from 0 s.power else 0))
+    (if s.down then 0 else value_from 0 s.power)
+    (length s.fraction + (if s.down then value_from 0 s.power else 0))
 
 abbrev pub in_64_bits : ℤ → Literal
 in_64_bits z = if fits z then Number z else Range

@@ -1,5 +1,5 @@
 -- The last character of a word.
-use Rattle.std.proofs.Common.{◌≡◌, ◌-◌, ◌+◌, ◌<◌, ℕ, zero, suc, Bool, true, false, List, [], ◌∷◌, length, refl, sym, ap, ◌∙◌, arith, Option, Some, None, slice_get, subst}
+use Rattle.std.proofs.Common.{◌≡◌, ◌-◌, ◌+◌, ◌<◌, ℕ, zero, suc, false, List, [], ◌∷◌, length, refl, ap, arith, Option, Some, None, slice_get}
 use Rattle.std.specs.Prelude.{◌==◌}
 use Rattle.bqn_syntax.specs.Words.{ends_in_underscore}
 

@@ -30,3 +30,24 @@ pub fn role(word: &[char]) -> Role
         _ => Role::Subject,
     }
 }
+
+#[cfg(test)]
+mod tests {
+    use super::*;
+
+    #[test]
+    fn roles_of_words(rt: HostRuntime) {
+        for (word, wanted) in [
+            (['a', 'B'], Role::Subject),
+            (['A', 'b'], Role::Function),
+            (['a', '_'], Role::Subject),
+            (['_', 'a'], Role::Mod1),
+            (['_', '_'], Role::Mod2),
+            (['_', '𝕣'], Role::Mod1),
+            (['𝕣', '_'], Role::Subject),
+            (['𝕏', '_'], Role::Function),
+        ] {
+            assert_eq!(rt; role(&word), wanted, "at {word:?}");
+        }
+    }
+}

@@ -1,5 +1,5 @@
 -- Cuts, trees and evaluations, computed.
-use Rattle.std.proofs.Common.{◌≡◌, ℕ, ℤ, pos, pos, negsuc, List, [], ◌∷◌, Option, Some, None, Ok, refl}
+use Rattle.std.proofs.Common.{◌≡◌, ℕ, ℤ, pos, pos, List, [], ◌∷◌, Option, Some, None, Ok, refl}
 use Rattle.std.specs.Str.{chars, is_utf8}
 use Rattle.std.specs.Option.{option_map, option_and_then}
 use Rattle.std.specs.Result.{result_ok}

@@ -1,11 +1,11 @@
 -- Tokens and refusals with their places, computed.
-use Rattle.std.proofs.Common.{◌≡◌, ℕ, ℤ, pos, negsuc, List, [], ◌∷◌, ◌++◌, Option, Some, None, Result, Ok, Err, refl}
+use Rattle.std.proofs.Common.{◌≡◌, ℕ, pos, List, [], ◌∷◌, Ok, Err, refl}
 use Rattle.std.specs.Str.{chars, is_utf8}
 use Rattle.std.specs.Str.Lossy.{utf8_valid_len}
 use lib.Chars.{codes}
 use lib.Utf8.{encode}
 use Rattle.bqn_base.specs.declared.place.Place.{Place}
-use Rattle.bqn_base.specs.declared.role.Role.TheVariants.{Subject, Function, Mod1, Mod2}
+use Rattle.bqn_base.specs.declared.role.Role.TheVariants.{Subject, Function, Mod2}
 use Rattle.bqn_base.specs.declared.refusal.Refusal.{Refusal}
 use Rattle.bqn_base.specs.declared.refusal.Refusal.TheVariants.{NotUtf8, BadChar, OpenQuote, BadNumber, NumberRange, BadName}
 use Rattle.bqn_syntax.specs.declared.token.Special.TheVariants.{Right, Modifier}

@@ -1,6 +1,6 @@
 -- The token lists that are built so far: numbers, subject names, `←`, parentheses, `+`, `-`, `×`, `•Show` and separators,
 -- at most 4,096 tokens. Tokens are compared by what they are, so their spelling does not count.
-use Rattle.std.specs.Prelude.{ℕ, suc, ◌+◌, nat_le, nat_lt, nat_eq, ◌==◌, Bool, true, false, ◌&&◌, if◌then◌else◌, ℤ, List, [], ◌∷◌, ◌++◌, length, position, codes as ascii, Option, Some, None}
+use Rattle.std.specs.Prelude.{ℕ, ◌+◌, nat_le, nat_lt, nat_eq, ◌==◌, true, false, if◌then◌else◌, List, [], ◌∷◌, ◌++◌, length, position, codes as ascii, Option, Some, None}
 use Rattle.std.specs.Cmp.Lexicographic.{pointwise}
 use Rattle.std.specs.Option.{option_map, option_and_then}
 use lib.Chars.{codes}
@@ -43,9 +43,9 @@ pub record Numbered : Type 0 where
 -- a name has the number of its first occurrence
 abbrev pub name_sign : List (List ℕ) → List ℕ → Numbered
 name_sign names name = elim (position (λ other. pointwise nat_eq other name) names) [
-    Some number ↦ record { sign = sign.Name number; names = names }
+  | Some number ↦ record { sign = sign.Name number; names = names }
   | None ↦ record { sign = sign.Name (length names); names = names ++ name ∷ [] }
-  ]
+]
 
 abbrev pub plain_sign : List (List ℕ) → Option Sign → Option Numbered
 plain_sign names s = option_map (λ s. record { sign = s; names = names }) s

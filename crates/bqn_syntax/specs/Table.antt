@@ -1,5 +1,5 @@
 -- The table of tokens, as the states that a piece goes through character by character: BQN's page on tokens.
-use Rattle.std.specs.Prelude.{ℕ, nat_le, ◌==◌, Bool, true, false, ◌&&◌, ◌||◌, if◌then◌else◌, List, [], ◌∷◌, ◌++◌, Option, Some, None}
+use Rattle.std.specs.Prelude.{ℕ, ◌==◌, Bool, true, false, ◌||◌, if◌then◌else◌, List, [], ◌∷◌, ◌++◌, Option, Some, None}
 use Rattle.std.specs.List.{list_any}
 pub use Rattle.bqn_base.specs.Characters.{is_digit, is_lower, is_letter}
 use lib.Chars.{codes}

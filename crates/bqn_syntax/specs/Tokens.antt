@@ -1,16 +1,15 @@
 -- The tokens of a text with their places, or its first refusal: BQN's page on tokens.
-use Rattle.std.specs.Prelude.{ℕ, zero, suc, ◌+◌, ◌-◌, ◌==◌, Bool, true, false, ◌&&◌, ◌||◌, if◌then◌else◌, List, [], ◌∷◌, ◌++◌, length, take, Option, Some, None, Result, Ok, Err, position}
+use Rattle.std.specs.Prelude.{ℕ, zero, suc, ◌+◌, ◌-◌, ◌==◌, ◌||◌, if◌then◌else◌, List, [], ◌∷◌, ◌++◌, take, Option, Some, None, Result, Ok, Err, position}
 use Rattle.std.specs.Option.{option_map}
 use Rattle.bqn_base.specs.declared.place.Place.{Place}
 use Rattle.bqn_base.specs.declared.refusal.Refusal.{Refusal}
 use Rattle.bqn_base.specs.declared.refusal.Refusal.TheVariants as refusal
-use Rattle.bqn_base.specs.Characters.{is_digit}
 use Rattle.bqn_base.specs.Literal.{Literal, Number, Bad, Range, literal, unquoted}
 use Rattle.bqn_syntax.specs.declared.progress.Progress.TheVariants.{Start}
 use Rattle.bqn_syntax.specs.declared.token.Kind.{Kind}
 use Rattle.bqn_syntax.specs.declared.token.Kind.TheVariants as kind
 use Rattle.bqn_syntax.specs.declared.token.Token.{Token}
-use Rattle.bqn_syntax.specs.Table.{primitive_functions, primitive_modifiers, punctuation, blanks, is_one_of, is_name_start, is_word}
+use Rattle.bqn_syntax.specs.Table.{primitive_functions, primitive_modifiers, blanks, is_one_of, is_name_start, is_word}
 use Rattle.bqn_syntax.specs.Cut.{longest}
 use Rattle.bqn_syntax.specs.Text.{text_of}
 use Rattle.bqn_syntax.specs.Words.{word_kind, system_kind, special_of, role_of}
@@ -54,9 +53,9 @@ abbrev pub single_kind : ℕ → Kind
 single_kind c =
     if c == 64 then kind.Char 0
     else elim (special_of c) [
-        Some name ↦ kind.Special name (role_of (c ∷ []))
+      | Some name ↦ kind.Special name (role_of (c ∷ []))
       | None ↦ elim (primitive_kind c) [ Some k ↦ k | None ↦ kind.Punct c ]
-      ]
+    ]
 
 -- the character between single quotes
 abbrev pub quoted : List ℕ → Result (Option Kind) Trouble
@@ -98,9 +97,9 @@ abbrev pub tokens_behind : ℕ → Place → List ℕ → Result (List Token) Re
 tokens_behind count place [] = Ok []
 tokens_behind (suc count) place (c ∷ cs) = tokens_behind count place cs
 tokens_behind zero place (c ∷ cs) = elim (longest Start (c ∷ cs)) [
-    None ↦ Err (refused_at (no_piece c) place)
+  | None ↦ Err (refused_at (no_piece c) place)
   | Some count ↦ with_kind (kind_of (take count (c ∷ cs))) place (tokens_behind (count - 1) (behind (take count (c ∷ cs)) place) cs)
-  ]
+]
 
 abbrev pub first_place : Place
 first_place = record { line = 1; column = 1 }
