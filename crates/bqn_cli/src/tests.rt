@@ -43,6 +43,19 @@ fn scripts(rt: HostRuntime) -> Result<(), Fail> {
         ("•Show ¯9223372036854775808⋄-¯9223372036854775808", "¯9223372036854775808\nError: Overflow\n", Status::Fault),
         ("•Show ¯0\n•SHOW ×0 # zero\r\n", "0\n0\n", Status::Done),
         ("•Show 1_0e2-1_e1", "990\n", Status::Done),
+        ("a_B←1e3 # c\n•Show ab-1_0", "990\n", Status::Done),
+        ("a←2 ⋄ b←a×(a+3) ⋄ •Show -b", "¯10\n", Status::Done),
+        ("•Show(•Show 1)+(•Show 2)", "2\n1\n3\n", Status::Done),
+        ("•Show ((1))-(2-(3))", "2\n", Status::Done),
+        ("a←•Show 1⋄•Show 9223372036854775807+a⋄•Show a", "1\nError: Overflow\n", Status::Fault),
+        ("•Show a⋄a←1", not_yet, Status::Refused),
+        ("a←1⋄a←2", not_yet, Status::Refused),
+        ("a←a", not_yet, Status::Refused),
+        ("A←1", not_yet, Status::Refused),
+        ("1+(a←2)", not_yet, Status::Refused),
+        ("(1⋄2)", not_yet, Status::Refused),
+        ("1)", not_yet, Status::Refused),
+        ("()", not_yet, Status::Refused),
         ("•Show (", not_yet, Status::Refused),
         ("•Show 7÷2", not_yet, Status::Refused),
         ("1 2", not_yet, Status::Refused),
@@ -79,6 +92,47 @@ fn sources_of_bytes(rt: HostRuntime) -> Result<(), Fail> {
         let (_, bytes) = ran(&rt, "run f", source, &[])?;
         assert_eq!(rt; bytes.as_slice(), written.as_bytes());
     }
+    Ok(())
+}
+
+#[test]
+fn parentheses(rt: HostRuntime) -> Result<(), Fail> {
+    let alloc = rt.alloc();
+    for (depth, written) in [(128, "1\n"), (129, "Refused: NotYet\n")] {
+        let mut source = String::from_str(alloc, "•Show ")?;
+        for _ in 0..depth {
+            source.push('(')?;
+        }
+        source.push('1')?;
+        for _ in 0..depth {
+            source.push(')')?;
+        }
+        let (_, bytes) = ran(&rt, "run f", source.as_bytes(), &[])?;
+        assert_eq!(rt; bytes.as_slice(), written.as_bytes(), "at {depth}");
+    }
+    Ok(())
+}
+
+#[test]
+fn places_of_refusals(rt: HostRuntime) -> Result<(), Fail> {
+    let alloc = rt.alloc();
+    for (bad, kind) in [("$", "BadChar"), ("\"", "OpenQuote"), ("3i4", "BadNumber"), ("1.5", "NumberRange"), ("_1", "BadName")] {
+        for (front, back, place) in [("", "\n1", "1:1"), ("1⋄'é'\n\t\"€\" ", " ⋄2", "2:6"), ("'𝕩'\n\n1 ", "", "3:3")] {
+            let source = format!(in alloc; "{front}{bad}{back}")?;
+            let written = format!(in alloc; "Refused: {kind} {place}\n")?;
+            let (_, bytes) = ran(&rt, "run f", source.as_bytes(), &[])?;
+            assert_eq!(rt; bytes.as_slice(), written.as_bytes(), "{source}");
+        }
+    }
+    Ok(())
+}
+
+#[test]
+fn every_symbol(rt: HostRuntime) -> Result<(), Fail> {
+    let source = "+-×÷⋆√⌊⌈|¬∧∨<>≠=≤≥≡≢⊣⊢⥊∾≍⋈↑↓↕«»⌽⍉/⍋⍒⊏⊑⊐⊒∊⍷⊔!˙˜˘¨⌜⁼´˝`∘○⊸⟜⌾⊘◶⎉⚇⍟⎊←⇐↩(){}⟨⟩[]‿·⋄,.;:?\n𝕨𝕩𝕤𝕗𝕘𝕎𝕏𝕊𝔽𝔾𝕣 _𝕣 _𝕣_ @ '@' \"\" •x F _m _d_";
+    let (status, bytes) = ran(&rt, "run f", source.as_bytes(), &[])?;
+    assert_eq!(rt; bytes.as_slice(), b"Refused: NotYet\n".as_slice());
+    assert_eq!(rt; status, Status::Refused);
     Ok(())
 }
 
