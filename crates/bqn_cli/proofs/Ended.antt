@@ -1,5 +1,5 @@
 -- How runs end as answers.
-use Rattle.std.proofs.Common.{ℕ, List, [], ◌++◌, Option, Some, None, Result, Ok, Err, refl, sym, subst}
+use Rattle.std.proofs.Common.{◌≡◌, ℕ, List, [], ◌++◌, Option, Some, None, Result, Ok, Err, refl, sym, subst}
 use Rattle.std.proofs.lemmas.List.{append-nil}
 use Rattle.std.specs.Prelude.{encode_utf8_all, IsSome}
 use Rattle.bqn_base.specs.declared.fault.Fault.{Fault}
@@ -24,7 +24,7 @@ use Rattle.std.specs.declared.vec.Vec.{Vec}
 use Rattle.std.specs.declared.alloc.Global.{Global}
 use Rattle.bqn_cli.specs.declared.halted.Halted.{Halted}
 use Rattle.bqn_cli.specs.declared.halted.Halted.TheVariants as halted
-use Rattle.bqn_cli.specs.Answer.{ended, faulted, refused, tokens_answer, tree_answer, default_steps}
+use Rattle.bqn_cli.specs.Answer.{Answer, ended, faulted, refused, tokens_answer, tree_answer, default_steps}
 use Rattle.bqn_cli.specs.Writing.{Gives, GivesRun}
 
 -- code of a source misses no operand

@@ -1,3 +1,9 @@
+pub mod Behind
+pub mod Spelling
+pub mod TokenSigns
+pub mod Rows
+pub mod Emitting
+pub mod Statements
 pub mod Simulation
 pub mod Compiled
 pub mod NumberLine

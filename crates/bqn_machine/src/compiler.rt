@@ -6,7 +6,7 @@ ghost use Rattle.bqn_machine.specs.Translation.{translation};
 
 use crate::code::Instr;
 use crate::error::CompileError;
-use crate::statements::code_of;
+use crate::translate::code_of;
 use bqn_syntax::Token;
 use std::alloc::Global;
 
