@@ -116,7 +116,7 @@ mutual
   has_steps-expr (Apply1 f e) s = has_steps-then (eval_expr e s) (λ x. call f None x) (has_steps-expr e s) (λ x t. has_steps-call f None x t)
   has_steps-expr (Apply2 f left e) s =
       has_steps-then (eval_expr e s) (λ x u. then_do (eval_part left u) (λ w. call f (Some w) x)) (has_steps-expr e s) (λ x t.
-        has_steps-then (eval_part left t) (λ w. call f (Some w) x) (has_steps-part left t) (λ w u. has_steps-call f (Some w) x u))
+      has_steps-then (eval_part left t) (λ w. call f (Some w) x) (has_steps-part left t) (λ w u. has_steps-call f (Some w) x u))
 
 has_steps-stored : (target : Option ℕ) (v : ℤ) (s : State) → HasSteps (stored target v s)
 has_steps-stored None v s = tt
@@ -126,7 +126,7 @@ has_steps-statements : (sts : List Stmt) (s : State) → HasSteps (eval_statemen
 has_steps-statements [] s = tt
 has_steps-statements (st ∷ sts) s =
     has_steps-then (eval_expr st.value s) (λ v u. then_do (stored st.target v u) (λ y. eval_statements sts)) (has_steps-expr st.value s) (λ v t.
-      has_steps-then (stored st.target v t) (λ y. eval_statements sts) (has_steps-stored st.target v t) (λ y u. has_steps-statements sts u))
+    has_steps-then (stored st.target v t) (λ y. eval_statements sts) (has_steps-stored st.target v t) (λ y u. has_steps-statements sts u))
 
 ended-status : (r : Res (Unit {0})) → HasSteps r → IsRunStatus (ended r).status
 ended-status (Value u s) h = tt

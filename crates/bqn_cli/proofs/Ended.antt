@@ -98,6 +98,7 @@ module _ {K : Type 0} (written : K → Option (List ℕ)) (room faults : K → �
   gives-nothing answer old = record { front = []; rest = answer.out; whole = refl; adds = adds-nothing written room faults old }
 
 pub ruleset token_laws = (source-tokens, source-refusal, gives-nothing)
+
 pub ruleset run_laws = (run-done, run-spent, run-memory, run-write_fault, run-faulted)
 
 pub ruleset source_laws = (compiles-some, source-run, source-refused, source-memory)

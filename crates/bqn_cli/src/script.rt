@@ -85,7 +85,11 @@ fn run_tokens<K: Sink>(alloc: Global, tokens: &[Token], out: &mut K) -> Result<S
 
 /// Refuses a source, or runs it.
 #[tactic(auto, using(crate::proofs::Ended::token_laws))]
-pub(crate) fn run_source<K: Sink>(alloc: Global, source: &[u8], out: &mut K) -> Result<Status, Halted>
+pub(crate) fn run_source<K: Sink>(
+    alloc: Global,
+    source: &[u8],
+    out: &mut K,
+) -> Result<Status, Halted>
     ensures { Gives K.written K.room K.faults (source_answer source.now) out.old out.new result }
 {
     match tokens(alloc, source) {

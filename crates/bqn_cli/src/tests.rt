@@ -36,18 +36,34 @@ fn scripts(rt: HostRuntime) -> Result<(), Fail> {
     for (source, written, status) in [
         ("", "", Status::Done),
         ("•Show 2+3", "5\n", Status::Done),
-        ("•Show 9223372036854775807+1", "Error: Overflow\n", Status::Fault),
+        (
+            "•Show 9223372036854775807+1",
+            "Error: Overflow\n",
+            Status::Fault,
+        ),
         ("•Show 10-2-3", "11\n", Status::Done),
         ("1 •Show 2", "Error: Domain\n", Status::Fault),
-        ("•Show 1,•Show ×-7\n⋄•Show\t¯2×3,,", "1\n¯1\n¯6\n", Status::Done),
-        ("•Show ¯9223372036854775808⋄-¯9223372036854775808", "¯9223372036854775808\nError: Overflow\n", Status::Fault),
+        (
+            "•Show 1,•Show ×-7\n⋄•Show\t¯2×3,,",
+            "1\n¯1\n¯6\n",
+            Status::Done,
+        ),
+        (
+            "•Show ¯9223372036854775808⋄-¯9223372036854775808",
+            "¯9223372036854775808\nError: Overflow\n",
+            Status::Fault,
+        ),
         ("•Show ¯0\n•SHOW ×0 # zero\r\n", "0\n0\n", Status::Done),
         ("•Show 1_0e2-1_e1", "990\n", Status::Done),
         ("a_B←1e3 # c\n•Show ab-1_0", "990\n", Status::Done),
         ("a←2 ⋄ b←a×(a+3) ⋄ •Show -b", "¯10\n", Status::Done),
         ("•Show(•Show 1)+(•Show 2)", "2\n1\n3\n", Status::Done),
         ("•Show ((1))-(2-(3))", "2\n", Status::Done),
-        ("a←•Show 1⋄•Show 9223372036854775807+a⋄•Show a", "1\nError: Overflow\n", Status::Fault),
+        (
+            "a←•Show 1⋄•Show 9223372036854775807+a⋄•Show a",
+            "1\nError: Overflow\n",
+            Status::Fault,
+        ),
         ("•Show a⋄a←1", not_yet, Status::Refused),
         ("a←1⋄a←2", not_yet, Status::Refused),
         ("a←a", not_yet, Status::Refused),
@@ -67,7 +83,11 @@ fn scripts(rt: HostRuntime) -> Result<(), Fail> {
         ("∞", "Refused: NumberRange 1:1\n", Status::Refused),
         ("_1", "Refused: BadName 1:1\n", Status::Refused),
         ("•Show \"ab", "Refused: OpenQuote 1:7\n", Status::Refused),
-        ("•Show 9223372036854775808", "Refused: NumberRange 1:7\n", Status::Refused),
+        (
+            "•Show 9223372036854775808",
+            "Refused: NumberRange 1:7\n",
+            Status::Refused,
+        ),
         ("\t¯", "Refused: BadNumber 1:2\n", Status::Refused),
     ] {
         let (ended, bytes) = ran(&rt, "run f", source.as_bytes(), &[])?;
@@ -77,21 +97,31 @@ fn scripts(rt: HostRuntime) -> Result<(), Fail> {
     Ok(())
 }
 
-#[test]
-fn sources_of_bytes(rt: HostRuntime) -> Result<(), Fail> {
-    let alloc = rt.alloc();
-    let spaces = vec![in alloc; b' '; 1_048_577]?;
-    let separators = vec![in alloc; b','; 4097]?;
-    for (source, written) in [
-        (spaces.as_slice(), "Refused: TooLong\n"),
-        (&spaces[..1_048_576], ""),
-        (separators.as_slice(), "Refused: NotYet\n"),
-        (&separators[..4096], ""),
-        (b"1\n\xff".as_slice(), "Refused: NotUtf8 at byte 2\n"),
-    ] {
-        let (_, bytes) = ran(&rt, "run f", source, &[])?;
-        assert_eq!(rt; bytes.as_slice(), written.as_bytes());
+fn repeated(alloc: Global, byte: u8, count: u32) -> Result<Vec<u8>, AllocError> {
+    let mut bytes = Vec::new(alloc);
+    for _ in 0..count {
+        bytes.push(byte)?;
     }
+    Ok(bytes)
+}
+
+#[test]
+fn sources_of_many_bytes(rt: HostRuntime) -> Result<(), Fail> {
+    for (byte, count, written) in [
+        (b' ', 1_048_577, "Refused: TooLong\n"),
+        (b' ', 1_048_576, ""),
+        (b',', 4097, "Refused: NotYet\n"),
+        (b',', 4096, ""),
+    ] {
+        let source = repeated(rt.alloc(), byte, count)?;
+        let (_, bytes) = ran(&rt, "run f", &source, &[])?;
+        assert_eq!(rt; bytes.as_slice(), written.as_bytes(), "{count}");
+    }
+    let (_, bytes) = ran(&rt, "run f", b"1\n\xff", &[])?;
+    assert_eq!(rt;
+        bytes.as_slice(),
+        b"Refused: NotUtf8 at byte 2\n".as_slice()
+    );
     Ok(())
 }
 
@@ -116,8 +146,18 @@ fn parentheses(rt: HostRuntime) -> Result<(), Fail> {
 #[test]
 fn places_of_refusals(rt: HostRuntime) -> Result<(), Fail> {
     let alloc = rt.alloc();
-    for (bad, kind) in [("$", "BadChar"), ("\"", "OpenQuote"), ("3i4", "BadNumber"), ("1.5", "NumberRange"), ("_1", "BadName")] {
-        for (front, back, place) in [("", "\n1", "1:1"), ("1⋄'é'\n\t\"€\" ", " ⋄2", "2:6"), ("'𝕩'\n\n1 ", "", "3:3")] {
+    for (bad, kind) in [
+        ("$", "BadChar"),
+        ("\"", "OpenQuote"),
+        ("3i4", "BadNumber"),
+        ("1.5", "NumberRange"),
+        ("_1", "BadName"),
+    ] {
+        for (front, back, place) in [
+            ("", "\n1", "1:1"),
+            ("1⋄'é'\n\t\"€\" ", " ⋄2", "2:6"),
+            ("'𝕩'\n\n1 ", "", "3:3"),
+        ] {
             let source = format!(in alloc; "{front}{bad}{back}")?;
             let written = format!(in alloc; "Refused: {kind} {place}\n")?;
             let (_, bytes) = ran(&rt, "run f", source.as_bytes(), &[])?;
@@ -129,7 +169,8 @@ fn places_of_refusals(rt: HostRuntime) -> Result<(), Fail> {
 
 #[test]
 fn every_symbol(rt: HostRuntime) -> Result<(), Fail> {
-    let source = "+-×÷⋆√⌊⌈|¬∧∨<>≠=≤≥≡≢⊣⊢⥊∾≍⋈↑↓↕«»⌽⍉/⍋⍒⊏⊑⊐⊒∊⍷⊔!˙˜˘¨⌜⁼´˝`∘○⊸⟜⌾⊘◶⎉⚇⍟⎊←⇐↩(){}⟨⟩[]‿·⋄,.;:?\n𝕨𝕩𝕤𝕗𝕘𝕎𝕏𝕊𝔽𝔾𝕣 _𝕣 _𝕣_ @ '@' \"\" •x F _m _d_";
+    let source =
+        "+-×÷⋆√⌊⌈|¬∧∨<>≠=≤≥≡≢⊣⊢⥊∾≍⋈↑↓↕«»⌽⍉/⍋⍒⊏⊑⊐⊒∊⍷⊔!˙˜˘¨⌜⁼´˝`∘○⊸⟜⌾⊘◶⎉⚇⍟⎊←⇐↩(){}⟨⟩[]‿·⋄,.;:?\n𝕨𝕩𝕤𝕗𝕘𝕎𝕏𝕊𝔽𝔾𝕣 _𝕣 _𝕣_ @ '@' \"\" •x F _m _d_";
     let (status, bytes) = ran(&rt, "run f", source.as_bytes(), &[])?;
     assert_eq!(rt; bytes.as_slice(), b"Refused: NotYet\n".as_slice());
     assert_eq!(rt; status, Status::Refused);

@@ -1,12 +1,12 @@
 -- What is emitted of a row is the code of its statement.
-use Rattle.std.proofs.Common.{◌≡◌, ◌+◌, ℕ, Bool, true, false, cond, List, [], ◌∷◌, ◌++◌, Option, Some, None, length, map, refl, sym, ap, ◌∙◌, append_assoc}
+use Rattle.std.proofs.Common.{◌≡◌, ◌+◌, ℕ, Bool, true, false, List, [], ◌∷◌, ◌++◌, Option, Some, None, length, map, refl, sym, ap, ◌∙◌, append_assoc}
 use Rattle.std.specs.Prelude.{nat_eq, nat_lt, if◌then◌else◌}
 use Rattle.std.proofs.lemmas.List.{append-nil, length-map}
 use Rattle.std.specs.Option.{option_map, option_and_then}
 use Rattle.bqn_syntax.specs.declared.function.Function.{Function}
 use Rattle.bqn_syntax.specs.declared.sign.Sign.{Sign}
 use Rattle.bqn_syntax.specs.declared.sign.Sign.TheVariants as sign
-use Rattle.bqn_syntax.specs.Tree.{Part, Number, Name, Paren, Expr, Value, Apply1, Apply2, Stmt}
+use Rattle.bqn_syntax.specs.Tree.{Part, Number, Name, Paren, Expr, Stmt}
 use Rattle.bqn_syntax.specs.Form.{Reading, with_part, with_function, finished as finished_expr, known, whole_stmt, fresh, stmt_of, defined_by}
 use Rattle.bqn_syntax.specs.Form as form
 use Rattle.bqn_machine.specs.declared.code.Instr.{Instr}
@@ -14,7 +14,7 @@ use Rattle.bqn_machine.specs.declared.code.Instr.TheVariants.{Call1, Call2, Pop,
 use Rattle.bqn_machine.specs.declared.emitter.Read.{Read}
 use Rattle.bqn_machine.specs.declared.emitter.Read.TheVariants.{Empty, Whole, Pending}
 use Rattle.bqn_machine.specs.Translation.{part_code, expr_code, stmt_code}
-use Rattle.bqn_machine.specs.Emission.{Progress, between, after_part, after_function, finished, closed, rejoined, opened, after_sign, outermost, dropped, named, defined_as, ended, emitted}
+use Rattle.bqn_machine.specs.Emission.{Progress, between, after_part, after_function, finished, closed, rejoined, opened, after_sign, dropped, named, defined_as, ended, emitted}
 
 abbrev shape : Reading → Read
 shape form.Empty = Empty
@@ -139,7 +139,7 @@ emitted-stmt_of (sign.Close ∷ row) defined front here outer =
     ∙ go (nat_lt (length outer) 128) (emitted-stmt_of row defined front form.Empty (here ∷ outer))
   where
     go : (b : Bool) → emitted (state defined front form.Empty (here ∷ outer)) row ≡ stated defined front (stmt_of defined form.Empty (here ∷ outer) row)
-      → option_and_then (λ q. emitted q row) (if b then Some (state defined front form.Empty (here ∷ outer)) else None) ≡ stated defined front (if b then stmt_of defined form.Empty (here ∷ outer) row else None)
+        → option_and_then (λ q. emitted q row) (if b then Some (state defined front form.Empty (here ∷ outer)) else None) ≡ stated defined front (if b then stmt_of defined form.Empty (here ∷ outer) row else None)
     go true e = e
     go false e = refl
 emitted-stmt_of (sign.Define ∷ sign.Name n ∷ []) defined front here [] = define-read defined front here n

@@ -179,7 +179,7 @@ module _ {K : Type 0} (written : K → Option (List ℕ)) (room faults : K → �
       → after_vars ≡ vars_behind (get_or code k d) stack vars → Going whole (drop (k + 1) code) after after_vars left old new
   going-step-at whole code k d stack vars after after_vars left old mid new lt g h e =
       subst (λ (vs : List ℤ). Going whole (drop (k + 1) code) after vs left old new) (sym e)
-          (going-step whole (get_or code k d) (drop (k + 1) code) stack vars after left old mid new (going-at whole code k d stack vars left old mid lt g) h)
+      (going-step whole (get_or code k d) (drop (k + 1) code) stack vars after left old mid new (going-at whole code k d stack vars left old mid lt g) h)
 
   pub going-halt-at : (whole : Run) (code : List Instr) (k : ℕ) (d : Instr) (stack vars after : List ℤ) (left : ℕ) (old mid new : K) (e : End)
       → IsSome whole → k < length code → Going whole (drop k code) stack vars left old mid → Acts written room faults (act (get_or code k d) stack vars) after mid new (Err e) → EndsAs written room faults whole old new e

@@ -1,12 +1,9 @@
 -- Rows, which are read leftward.
-use Rattle.std.proofs.Common.{◌≡◌, ◌≤◌, ◌+◌, ℕ, zero, suc, Bool, true, false, cond, List, [], ◌∷◌, ◌++◌, Option, Some, None, length, refl, sym, ap, ◌∙◌, arith}
-use Rattle.std.specs.Prelude.{reverse, nat_eq}
-use Rattle.std.proofs.lemmas.List.{reverse-append, reverse-reverse, length-reverse}
-use Rattle.std.proofs.lemmas.Bool.Decides.{nat_tests}
-use Rattle.std.specs.Option.{option_map, option_and_then}
+use Rattle.std.proofs.Common.{◌≡◌, ◌≤◌, List, [], ◌∷◌, ◌++◌, Some, length, refl, arith}
+use Rattle.std.specs.Prelude.{reverse}
+use Rattle.std.proofs.lemmas.List.{reverse-append, length-reverse}
 use Rattle.bqn_syntax.specs.declared.sign.Sign.{Sign}
-use Rattle.bqn_syntax.specs.declared.sign.Sign.TheVariants as sign
-use Rattle.bqn_machine.specs.Emission.{Progress, outermost, dropped, named, defined_as, after_sign, ended, emitted, row_emitted}
+use Rattle.bqn_machine.specs.Emission.{Progress, ended, emitted, row_emitted}
 
 pub reverse-pushed : {A : Type 0} (row : List A) (t : A) → reverse (row ++ t ∷ []) ≡ t ∷ reverse row
 reverse-pushed row t = reverse-append row (t ∷ [])

@@ -33,9 +33,9 @@ mutual
       ap (λ (is : List Instr). exec is stack s) (append_assoc (expr_code e) (part_code left ++ Call2 f ∷ []) code)
       ∙ exec-expr_code e ((part_code left ++ Call2 f ∷ []) ++ code) stack s
       ∙ on_answer-same (eval_expr e s) _ _ (λ x t.
-          ap (λ (is : List Instr). exec is (x ∷ stack) t) (append_assoc (part_code left) (Call2 f ∷ []) code)
-          ∙ exec-part_code left (Call2 f ∷ code) (x ∷ stack) t
-          ∙ on_answer-then_do (eval_part left t) (λ w. call f (Some w) x) (λ y u. exec code (y ∷ stack) u))
+      ap (λ (is : List Instr). exec is (x ∷ stack) t) (append_assoc (part_code left) (Call2 f ∷ []) code)
+      ∙ exec-part_code left (Call2 f ∷ code) (x ∷ stack) t
+      ∙ on_answer-then_do (eval_part left t) (λ w. call f (Some w) x) (λ y u. exec code (y ∷ stack) u))
       ∙ on_answer-then_do (eval_expr e s) (λ x u. then_do (eval_part left u) (λ w. call f (Some w) x)) (λ y t. exec code (y ∷ stack) t)
 
 exec-target_code : (target : Option ℕ) (code : List Instr) (v : ℤ) (stack : List ℤ) (s : State) → exec (target_code target ++ code) (v ∷ stack) s ≡ on_answer (stored target v s) (λ y t. exec code (y ∷ stack) t)
@@ -58,10 +58,10 @@ exec-translation (st ∷ sts) s =
     ap (λ (is : List Instr). exec is [] s) (append_assoc (expr_code st.value) (target_code st.target ++ Pop ∷ []) (translation sts))
     ∙ exec-expr_code st.value ((target_code st.target ++ Pop ∷ []) ++ translation sts) [] s
     ∙ on_answer-same (eval_expr st.value s) _ _ (λ v t.
-        ap (λ (is : List Instr). exec is (v ∷ []) t) (append_assoc (target_code st.target) (Pop ∷ []) (translation sts))
-        ∙ exec-target_code st.target (Pop ∷ translation sts) v [] t
-        ∙ on_answer-same (stored st.target v t) _ _ (λ y u. exec-translation sts u)
-        ∙ some_then_do (stored st.target v t) (eval_statements sts))
+    ap (λ (is : List Instr). exec is (v ∷ []) t) (append_assoc (target_code st.target) (Pop ∷ []) (translation sts))
+    ∙ exec-target_code st.target (Pop ∷ translation sts) v [] t
+    ∙ on_answer-same (stored st.target v t) _ _ (λ y u. exec-translation sts u)
+    ∙ some_then_do (stored st.target v t) (eval_statements sts))
     ∙ some_then_do-value (eval_expr st.value s) (λ v u. then_do (stored st.target v u) (λ y. eval_statements sts))
 
 pub executed-translation : (tree : List Stmt) (steps : ℕ) → executed (translation tree) steps ≡ Some (evaluated tree steps)

@@ -1,18 +1,18 @@
 -- Names and their numbers.
-use Rattle.std.proofs.Common.{◌≡◌, ◌+◌, ℕ, Bool, true, false, not, cond, if◌then◌else◌, List, [], ◌∷◌, ◌++◌, Option, Some, None, length, map, position, Vec, refl, sym, ap, ◌∙◌}
+use Rattle.std.proofs.Common.{◌≡◌, ◌+◌, ℕ, Bool, false, not, cond, if◌then◌else◌, List, [], ◌∷◌, ◌++◌, Option, Some, None, length, position, Vec, refl, sym, ap, ◌∙◌}
 use Rattle.std.specs.Prelude.{nat_eq, nat_lt}
 use Rattle.std.specs.List.{position_or_len, list_any}
 use Rattle.std.specs.Cmp.Lexicographic.{pointwise, nat_list_eq_equiv}
-use Rattle.std.proofs.lemmas.List.{length-map, map-append}
+use Rattle.std.proofs.lemmas.List.{length-map}
 use Rattle.bqn_syntax.specs.declared.sign.Sign.TheVariants as sign
 use Rattle.bqn_syntax.specs.Form.{Numbered, name_sign}
 use Rattle.bqn_machine.specs.Reading.{spelled}
 
 abbrev numbered : List (List ℕ) → List ℕ → Option ℕ → Numbered
 numbered names name place = elim place [
-    Some number ↦ record { sign = sign.Name number; names = names }
+  | Some number ↦ record { sign = sign.Name number; names = names }
   | None ↦ record { sign = sign.Name (length names); names = names ++ name ∷ [] }
-  ]
+]
 
 module _ {A : Type 0} where
   abbrev pub same : List ℕ → Vec ℕ A → Bool

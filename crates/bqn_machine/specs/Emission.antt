@@ -32,18 +32,18 @@ pushed p i = record p { code = p.code ++ i ∷ [] }
 -- a part left of what is read, whose code stands last
 abbrev pub after_part : Progress → Option Progress
 after_part p = elim p.here [
-    Empty ↦ Some (record p { here = Whole })
+  | Empty ↦ Some (record p { here = Whole })
   | Whole ↦ None
   | Pending f ↦ Some (record p { here = Whole; code = p.code ++ Call2 f ∷ [] })
-  ]
+]
 
 -- the end of the expression that is read
 abbrev pub finished : Progress → Option Progress
 finished p = elim p.here [
-    Empty ↦ None
+  | Empty ↦ None
   | Whole ↦ Some (record p { here = Whole })
   | Pending f ↦ Some (record p { here = Whole; code = p.code ++ Call1 f ∷ [] })
-  ]
+]
 
 abbrev pub awaiting : Function → Progress → Progress
 awaiting f p = record p { here = Pending f }

@@ -45,7 +45,11 @@ fn push(stack: &mut Vec<i64>, x: i64) -> Result<(), End>
 fn value_at(vars: &[i64], number: usize) -> Option<i64>
     ensures { result ≡ slice_get vars.now number }
 {
-    if number < vars.len() { Some(vars[number]) } else { None }
+    if number < vars.len() {
+        Some(vars[number])
+    } else {
+        None
+    }
 }
 
 /// Pushes the value of a name.

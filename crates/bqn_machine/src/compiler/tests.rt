@@ -20,9 +20,16 @@ fn placed(alloc: Global, kinds: Vec<Kind>) -> Result<Vec<Token>, AllocError> {
 /// The tokens of `a←2⋄•Show(a-5)`.
 fn script(alloc: Global) -> Result<Vec<Token>, Fail> {
     let kinds = vec![in alloc;
-        Kind::Word(Name::new(alloc, &['a'])?, Role::Subject), Kind::Punct('←'), Kind::Number(2), Kind::Punct('⋄'),
-        Kind::System(Name::new(alloc, &['s', 'h', 'o', 'w'])?, Role::Function), Kind::Punct('('),
-        Kind::Word(Name::new(alloc, &['a'])?, Role::Subject), Kind::Given(1), Kind::Number(5), Kind::Punct(')')
+        Kind::Word(Name::new(alloc, &['a'])?, Role::Subject),
+        Kind::Punct('←'),
+        Kind::Number(2),
+        Kind::Punct('⋄'),
+        Kind::System(Name::new(alloc, &['s', 'h', 'o', 'w'])?, Role::Function),
+        Kind::Punct('('),
+        Kind::Word(Name::new(alloc, &['a'])?, Role::Subject),
+        Kind::Given(1),
+        Kind::Number(5),
+        Kind::Punct(')'),
     ]?;
     Ok(placed(alloc, kinds)?)
 }
