@@ -5,6 +5,7 @@ use Rattle.std.specs.Fmt.{digits}
 use Rattle.bqn_base.specs.declared.fault.Fault.TheVariants.{Assert, Overflow}
 use Rattle.bqn_base.specs.declared.refusal.Refusal.TheVariants.{NotUtf8, BadChar, TooLong, NotYet}
 use Rattle.bqn_base.specs.Arithmetic.{sum_of, difference_of, product_of, negative_of, sign_of}
+use Rattle.bqn_base.specs.Literal.{literal, Number, Bad, Range, unquoted}
 use Rattle.bqn_base.specs.Printed.{number_text, error_line, refusal_line}
 
 -- 2^63 - 1 and -2^63
@@ -84,3 +85,58 @@ line_too_long = refl
 
 line_not_yet : refusal_line NotYet ≡ codes "Refused: NotYet" ++ 10 ∷ []
 line_not_yet = refl
+
+-- literals
+literal_of_thousand : literal (codes "1e3") ≡ Number (pos 1000)
+literal_of_thousand = refl
+
+literal_with_underscores : literal (codes "_1_0_e_3") ≡ Number (pos 10000)
+literal_with_underscores = refl
+
+literal_of_negative : literal (175 ∷ codes "_15") ≡ Number (negsuc 14)
+literal_of_negative = refl
+
+literal_down : literal (codes "10e" ++ 175 ∷ codes "1") ≡ Number (pos 1)
+literal_down = refl
+
+literal_not_whole : literal (codes "15e" ++ 175 ∷ codes "1") ≡ Range
+literal_not_whole = refl
+
+literal_of_half : literal (codes "1.5") ≡ Range
+literal_of_half = refl
+
+literal_of_fraction : literal (codes "1.50e1") ≡ Number (pos 15)
+literal_of_fraction = refl
+
+literal_of_zero : literal (codes "0e99999999999999999999") ≡ Number (pos 0)
+literal_of_zero = refl
+
+literal_of_greatest : literal (codes "9223372036854775807") ≡ Number (pos 9223372036854775807)
+literal_of_greatest = refl
+
+literal_past_greatest : literal (codes "9223372036854775808") ≡ Range
+literal_past_greatest = refl
+
+literal_of_least : literal (175 ∷ codes "9223372036854775808") ≡ Number (negsuc 9223372036854775807)
+literal_of_least = refl
+
+literal_past_least : literal (175 ∷ codes "9223372036854775809") ≡ Range
+literal_past_least = refl
+
+literal_bad : literal (codes "3i4") ≡ Bad
+literal_bad = refl
+
+literal_of_macron : literal (175 ∷ []) ≡ Bad
+literal_of_macron = refl
+
+literal_macron_inside : literal (codes "2" ++ 175 ∷ codes "3") ≡ Bad
+literal_macron_inside = refl
+
+literal_without_power : literal (codes "1e") ≡ Bad
+literal_without_power = refl
+
+literal_of_infinity : literal (8734 ∷ codes "x") ≡ Range
+literal_of_infinity = refl
+
+text_with_quotes : unquoted (codes "a\"\"b") ≡ codes "a\"b"
+text_with_quotes = refl

@@ -1,3 +1,5 @@
+pub mod Characters
 pub mod Names
 pub mod Arithmetic
+pub mod Literal
 pub mod Printed

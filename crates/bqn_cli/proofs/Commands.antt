@@ -1,11 +1,12 @@
 -- A `run` command, from what the fetch gave to what is promised.
-use Rattle.std.proofs.Common.{◌≡◌, ◌≤◌, ◌<◌, ℕ, Bool, true, false, List, [], ◌∷◌, length, Option, Some, None, Result, Ok, Err, refl, sym, ap, subst, arith}
-use Rattle.std.specs.Prelude.{not, ◌&&◌, nat_le}
-use Rattle.std.specs.Option.{option_and_then}
-use Rattle.std.specs.Result.{result_ok}
+use Rattle.std.proofs.Common.{◌≡◌, ◌≤◌, ◌<◌, ℕ, zero, suc, Bool, true, false, List, [], ◌∷◌, length, slice_get, Option, Some, None, Result, Ok, Err, refl, sym, ap, subst, arith}
+use Rattle.std.specs.Prelude.{nat_lt}
+use Rattle.std.specs.Str.{is_utf8, chars}
+use Rattle.std.specs.Str.Lossy.{utf8_valid_len}
 use Rattle.std.proofs.lemmas.Bool.Decides.{nat_tests}
 use Rattle.bqn_base.specs.declared.fault.Fault.{Fault}
-use Rattle.bqn_base.specs.declared.refusal.Refusal.TheVariants.{NotYet}
+use Rattle.bqn_base.specs.declared.refusal.Refusal.{Refusal}
+use Rattle.bqn_base.specs.declared.refusal.Refusal.TheVariants.{TooLong, NotUtf8}
 use Rattle.bqn_base.specs.declared.status.Status.{Status}
 use Rattle.bqn_base.specs.declared.status.Status.TheVariants as status
 use Rattle.bqn_io.specs.declared.files.Fetched.{Fetched}
@@ -14,38 +15,53 @@ use Rattle.bqn_io.specs.declared.files.FetchError.TheVariants as error
 use Rattle.bqn_io.specs.Devices.{Rose, Told, Untold, Missing, Kept, Fetches, IsKept, IsNoFailure as FetchIsNoFailure}
 use Rattle.bqn_io.specs.Writing.{Adds, AddsPart, Breaks}
 use Rattle.bqn_io.proofs.Writing.{added-nil}
-use Rattle.bqn_syntax.specs.declared.tree.Step.{Step}
-use Rattle.bqn_syntax.specs.declared.tree.Expr.{Expr}
-use Rattle.bqn_syntax.specs.declared.tree.Tree.{Tree}
-use Rattle.bqn_syntax.specs.Text.{text_of}
-use Rattle.bqn_syntax.specs.Table.{is_one_of}
-use Rattle.bqn_syntax.specs.Form.{is_short, tree_of, tree_of_text}
-use Rattle.bqn_syntax.specs.Evaluation.{State, Res, Gives as Value, Faults, Spends, M, then_do, answered, answer_of, output_of, wrote, call, eval_steps, eval_expr, eval_statements, evaluated}
+use Rattle.bqn_syntax.specs.declared.token.Token.{Token}
+use Rattle.bqn_syntax.specs.declared.function.Function.{Function}
+use Rattle.bqn_syntax.specs.Tree.{Part, Number, Name, Paren, Expr, Value as Alone, Apply1, Apply2, Stmt}
+use Rattle.bqn_syntax.specs.Text.{text_of, without_returns}
+use Rattle.bqn_syntax.specs.Tokens.{tokens_of_text, tokens_of_source}
+use Rattle.bqn_syntax.specs.Form.{tree_of}
+use Rattle.bqn_syntax.specs.Evaluation.{State, Res, Gives as Value, Faults, Spends, M, then_do, answered, answer_of, output_of, wrote, call, known_value, stored, eval_part, eval_expr, eval_statements, evaluated}
 use Rattle.std.specs.Prelude.{ℤ}
 use Rattle.bqn_cli.specs.declared.halted.Halted.{Halted}
 use Rattle.bqn_cli.specs.declared.halted.Halted.TheVariants as halted
 use Rattle.bqn_cli.specs.Command.{Run}
-use Rattle.bqn_cli.specs.Answer.{Answer, FileAnswers, source_answer, tree_answer, ended, refused, default_steps}
+use Rattle.bqn_cli.specs.Answer.{Answer, FileAnswers, source_answer, tokens_answer, tree_answer, ended, refused, default_steps}
 use Rattle.bqn_cli.specs.Headline.{Whole, Prefix, FileFits, Meets}
 use Rattle.bqn_cli.specs.Writing.{Gives, fetched_answer, status_of}
 
--- a source that is too long for any is not of the form
-is_short-long : (source : List ℕ) → 1048576 < length source → is_short source ≡ false
-is_short-long source long =
-    let over : nat_le (length source) 4096 ≡ false = over_limit (length source) long in
-    ap (λ (b : Bool). b && not (is_one_of source 13)) over
-  where
-    over_limit : (n : ℕ) → 1048576 < n → nat_le n 4096 ≡ false
-    over_limit n h = grind (arith, nat_tests)
+abbrev text_if : Bool → List ℕ → Result (List ℕ) Refusal
+text_if b source = elim b [ true ↦ Err TooLong | false ↦ elim (is_utf8 source) [ true ↦ Ok (without_returns (chars source)) | false ↦ Err (NotUtf8 (utf8_valid_len source)) ] ]
 
-source_answer-long : (source : List ℕ) → 1048576 < length source → source_answer source ≡ refused NotYet
-source_answer-long source long =
-    ap (λ (b : Bool). tree_answer (elim b [ false ↦ None | true ↦ option_and_then tree_of_text (result_ok (text_of source)) ])) (is_short-long source long)
+over : (n : ℕ) → 1048576 < n → nat_lt 1048576 n ≡ true
+over n h = grind (arith, nat_tests)
+
+text_of-long : (source : List ℕ) → 1048576 < length source → text_of source ≡ Err TooLong
+text_of-long source long = ap (λ (b : Bool). text_if b source) (over (length source) long)
+
+abbrev tokens_if : Result (List ℕ) Refusal → Result (List Token) Refusal
+tokens_if text = elim text [ Ok t ↦ tokens_of_text t | Err r ↦ Err r ]
+
+-- a source that is too long is refused as such
+source_answer-long : (source : List ℕ) → 1048576 < length source → source_answer source ≡ refused TooLong
+source_answer-long source long = ap (λ (text : Result (List ℕ) Refusal). tokens_answer (tokens_if text)) (text_of-long source long)
+
+-- a list of more bytes
+record Longer (n : ℕ) : Type 0 where
+  bytes : List ℕ
+  long : n < length bytes
+
+one_longer : (n : ℕ) → Longer n → Longer (suc n)
+one_longer n l = record { bytes = 0 ∷ l.bytes; long = (let h = l.long in omega arith) }
+
+longer : (n : ℕ) → Longer n
+longer zero = record { bytes = 0 ∷ []; long = omega arith }
+longer (suc n) = one_longer n (longer n)
 
 -- what was fetched has the answer of the file
 answers-fetched : (told : Told) (given : Fetched) → Fetches told 1048576 (Ok given) → FileAnswers told (fetched_answer given)
 answers-fetched Untold (fetched.Whole bytes) h = record { source = bytes; is = refl }
-answers-fetched Untold fetched.Longer h = record { source = 13 ∷ []; is = refl }
+answers-fetched Untold fetched.Longer h = let l = longer 1048576 in record { source = l.bytes; is = sym (source_answer-long l.bytes l.long) }
 answers-fetched Missing given h = absurd h
 answers-fetched (Kept kept) (fetched.Whole bytes) h = ap source_answer h.0
 answers-fetched (Kept kept) fetched.Longer h = sym (source_answer-long kept h)
@@ -81,28 +97,52 @@ has_steps-answered : (r : Result ℤ Fault) (s : State) → HasSteps (answered r
 has_steps-answered (Ok y) s = tt
 has_steps-answered (Err f) s = tt
 
--- no step is taken behind the first
-has_steps-steps : (steps : List Step) (x : ℤ) (s : State) → HasSteps (eval_steps steps x s)
-has_steps-steps [] x s = tt
-has_steps-steps (step ∷ steps) x s =
-    has_steps-then (call step.function step.left x s) (eval_steps steps)
-    (has_steps-answered (answer_of step.function step.left x) (wrote s (output_of step.function step.left x))) (λ y t. has_steps-steps steps y t)
+has_steps-known : (o : Option ℤ) (s : State) → HasSteps (known_value o s)
+has_steps-known None s = tt
+has_steps-known (Some v) s = tt
 
-has_steps-statements : (es : List Expr) (s : State) → HasSteps (eval_statements es s)
+has_steps-call : (f : Function) (left : Option ℤ) (x : ℤ) (s : State) → HasSteps (call f left x s)
+has_steps-call f left x s = has_steps-answered (answer_of f left x) (wrote s (output_of f left x))
+
+-- no step is taken behind the first
+mutual
+  has_steps-part : (part : Part) (s : State) → HasSteps (eval_part part s)
+  has_steps-part (Number z) s = tt
+  has_steps-part (Name number) s = has_steps-known (slice_get s.vars number) s
+  has_steps-part (Paren e) s = has_steps-expr e s
+
+  has_steps-expr : (e : Expr) (s : State) → HasSteps (eval_expr e s)
+  has_steps-expr (Alone part) s = has_steps-part part s
+  has_steps-expr (Apply1 f e) s = has_steps-then (eval_expr e s) (λ x. call f None x) (has_steps-expr e s) (λ x t. has_steps-call f None x t)
+  has_steps-expr (Apply2 f left e) s =
+      has_steps-then (eval_expr e s) (λ x u. then_do (eval_part left u) (λ w. call f (Some w) x)) (has_steps-expr e s) (λ x t.
+      has_steps-then (eval_part left t) (λ w. call f (Some w) x) (has_steps-part left t) (λ w u. has_steps-call f (Some w) x u))
+
+has_steps-stored : (target : Option ℕ) (v : ℤ) (s : State) → HasSteps (stored target v s)
+has_steps-stored None v s = tt
+has_steps-stored (Some number) v s = tt
+
+has_steps-statements : (sts : List Stmt) (s : State) → HasSteps (eval_statements sts s)
 has_steps-statements [] s = tt
-has_steps-statements (e ∷ es) s = has_steps-then (eval_expr e s) (λ v. eval_statements es) (has_steps-steps e.steps e.last s) (λ v t. has_steps-statements es t)
+has_steps-statements (st ∷ sts) s =
+    has_steps-then (eval_expr st.value s) (λ v u. then_do (stored st.target v u) (λ y. eval_statements sts)) (has_steps-expr st.value s) (λ v t.
+    has_steps-then (stored st.target v t) (λ y. eval_statements sts) (has_steps-stored st.target v t) (λ y u. has_steps-statements sts u))
 
 ended-status : (r : Res (Unit {0})) → HasSteps r → IsRunStatus (ended r).status
 ended-status (Value u s) h = tt
 ended-status (Faults f s) h = tt
 ended-status (Spends s) h = absurd h
 
-tree_answer-status : (tree : Option Tree) → IsRunStatus (tree_answer tree).status
+tree_answer-status : (tree : Option (List Stmt)) → IsRunStatus (tree_answer tree).status
 tree_answer-status None = tt
-tree_answer-status (Some tree) = ended-status (evaluated tree default_steps) (has_steps-statements tree.statements (record { written = []; left = 999999 }))
+tree_answer-status (Some tree) = ended-status (evaluated tree default_steps) (has_steps-statements tree (record { written = []; left = 999999; vars = [] }))
+
+tokens_answer-status : (answer : Result (List Token) Refusal) → IsRunStatus (tokens_answer answer).status
+tokens_answer-status (Ok tokens) = tree_answer-status (tree_of tokens)
+tokens_answer-status (Err r) = tt
 
 fetched_answer-status : (given : Fetched) → IsRunStatus (fetched_answer given).status
-fetched_answer-status (fetched.Whole source) = tree_answer-status (tree_of source)
+fetched_answer-status (fetched.Whole source) = tokens_answer-status (tokens_of_source source)
 fetched_answer-status fetched.Longer = tt
 
 module _ {K : Type 0} (written : K → Option (List ℕ)) (room faults : K → ℕ) where

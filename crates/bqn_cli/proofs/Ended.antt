@@ -1,15 +1,18 @@
 -- How runs end as answers.
-use Rattle.std.proofs.Common.{ℕ, List, [], ◌++◌, Option, Some, None, Result, Ok, Err, refl, sym, subst}
+use Rattle.std.proofs.Common.{◌≡◌, ℕ, List, [], ◌++◌, Option, Some, None, Result, Ok, Err, refl, sym, subst}
 use Rattle.std.proofs.lemmas.List.{append-nil}
 use Rattle.std.specs.Prelude.{encode_utf8_all, IsSome}
 use Rattle.bqn_base.specs.declared.fault.Fault.{Fault}
+use Rattle.bqn_base.specs.declared.refusal.Refusal.{Refusal}
 use Rattle.bqn_base.specs.declared.refusal.Refusal.TheVariants.{NotYet}
 use Rattle.bqn_base.specs.declared.status.Status.{Status}
 use Rattle.bqn_base.specs.declared.status.Status.TheVariants as status
 use Rattle.bqn_base.specs.Printed.{error_line}
 use Rattle.bqn_io.specs.Writing.{Adds, AddsPart, Breaks}
 use Rattle.bqn_io.proofs.Writing.{adds-nothing, adds-then, adds-then-part, adds-then-breaks}
-use Rattle.bqn_syntax.specs.declared.tree.Tree.{Tree}
+use Rattle.bqn_syntax.specs.declared.token.Token.{Token}
+use Rattle.bqn_syntax.specs.Tree.{Stmt}
+use Rattle.bqn_syntax.specs.Form.{tree_of}
 use Rattle.bqn_syntax.specs.Evaluation.{State, Gives as Value, Faults, Spends}
 use Rattle.bqn_machine.specs.declared.code.Instr.{Instr}
 use Rattle.bqn_machine.specs.declared.end.End.TheVariants as end
@@ -21,11 +24,11 @@ use Rattle.std.specs.declared.vec.Vec.{Vec}
 use Rattle.std.specs.declared.alloc.Global.{Global}
 use Rattle.bqn_cli.specs.declared.halted.Halted.{Halted}
 use Rattle.bqn_cli.specs.declared.halted.Halted.TheVariants as halted
-use Rattle.bqn_cli.specs.Answer.{ended, faulted, refused, tree_answer, default_steps}
+use Rattle.bqn_cli.specs.Answer.{Answer, ended, faulted, refused, tokens_answer, tree_answer, default_steps}
 use Rattle.bqn_cli.specs.Writing.{Gives, GivesRun}
 
 -- code of a source misses no operand
-pub compiles-some : (tree : Option Tree) (code : Vec Instr Global) (steps : ℕ) → Compiles tree (Ok code) → IsSome (executed code.items steps)
+pub compiles-some : (tree : Option (List Stmt)) (code : Vec Instr Global) (steps : ℕ) → Compiles tree (Ok code) → IsSome (executed code.items steps)
 compiles-some None code steps h = absurd h
 compiles-some (Some tree) code steps h = subst (λ (run : Run). IsSome run) (sym (h steps)) refl
 
@@ -74,16 +77,27 @@ module _ {K : Type 0} (written : K → Option (List ℕ)) (room faults : K → �
   run-faulted (Some (Faults g s)) f old mid new result e h = behind g s old mid new result e.1 (subst (λ (x : Fault). Gives written room faults (faulted x) mid new result) e.0 h)
   run-faulted (Some (Spends s)) f old mid new result e h = absurd e
 
-  pub source-run : (tree : Option Tree) (code : Vec Instr Global) (old new : K) (result : Result Status Halted) → Compiles tree (Ok code) → GivesRun written room faults (executed code.items default_steps) old new result → Gives written room faults (tree_answer tree) old new result
+  pub source-run : (tree : Option (List Stmt)) (code : Vec Instr Global) (old new : K) (result : Result Status Halted) → Compiles tree (Ok code) → GivesRun written room faults (executed code.items default_steps) old new result → Gives written room faults (tree_answer tree) old new result
   source-run None code old new result c h = absurd c
   source-run (Some tree) code old new result c h = subst (λ (run : Run). GivesRun written room faults run old new result) (c default_steps) h
 
-  pub source-refused : (tree : Option Tree) (old new : K) (result : Result Status Halted) → Compiles tree (Err compile.NotYet) → Gives written room faults (refused NotYet) old new result → Gives written room faults (tree_answer tree) old new result
+  pub source-refused : (tree : Option (List Stmt)) (old new : K) (result : Result Status Halted) → Compiles tree (Err compile.NotYet) → Gives written room faults (refused NotYet) old new result → Gives written room faults (tree_answer tree) old new result
   source-refused None old new result c h = h
   source-refused (Some tree) old new result c h = absurd c
 
-  pub source-memory : (tree : Option Tree) (old : K) → Gives written room faults (tree_answer tree) old old (Err halted.Memory)
+  pub source-memory : (tree : Option (List Stmt)) (old : K) → Gives written room faults (tree_answer tree) old old (Err halted.Memory)
   source-memory tree old = record { front = []; rest = (tree_answer tree).out; whole = refl; adds = adds-nothing written room faults old }
+
+  pub source-tokens : (answer : Result (List Token) Refusal) (given : Vec Token Global) (old new : K) (result : Result Status Halted) → answer ≡ Ok given.items → Gives written room faults (tree_answer (tree_of given.items)) old new result → Gives written room faults (tokens_answer answer) old new result
+  source-tokens answer given old new result e h = subst (λ (a : Result (List Token) Refusal). Gives written room faults (tokens_answer a) old new result) (sym e) h
+
+  pub source-refusal : (answer : Result (List Token) Refusal) (r : Refusal) (old new : K) (result : Result Status Halted) → answer ≡ Err r → Gives written room faults (refused r) old new result → Gives written room faults (tokens_answer answer) old new result
+  source-refusal answer r old new result e h = subst (λ (a : Result (List Token) Refusal). Gives written room faults (tokens_answer a) old new result) (sym e) h
+
+  pub gives-nothing : (answer : Answer) (old : K) → Gives written room faults answer old old (Err halted.Memory)
+  gives-nothing answer old = record { front = []; rest = answer.out; whole = refl; adds = adds-nothing written room faults old }
+
+pub ruleset token_laws = (source-tokens, source-refusal, gives-nothing)
 
 pub ruleset run_laws = (run-done, run-spent, run-memory, run-write_fault, run-faulted)
 

@@ -1,5 +1,5 @@
 -- What a command line is answered: the bytes to write, and the status. This project's own.
-use Rattle.std.specs.Prelude.{◌≡◌, ℕ, List, [], ◌++◌, Option, Some, None, encode_utf8_all}
+use Rattle.std.specs.Prelude.{◌≡◌, ℕ, List, [], ◌++◌, Option, Some, None, Result, Ok, Err, encode_utf8_all}
 use Rattle.bqn_base.specs.declared.fault.Fault.{Fault}
 use Rattle.bqn_base.specs.declared.refusal.Refusal.{Refusal}
 use Rattle.bqn_base.specs.declared.refusal.Refusal.TheVariants.{NotYet}
@@ -7,7 +7,9 @@ use Rattle.bqn_base.specs.declared.status.Status.{Status}
 use Rattle.bqn_base.specs.declared.status.Status.TheVariants as status
 use Rattle.bqn_base.specs.Printed.{error_line, refusal_line, usage_line}
 use Rattle.bqn_io.specs.Devices.{Told, Untold, Missing, Kept}
-use Rattle.bqn_syntax.specs.declared.tree.Tree.{Tree}
+use Rattle.bqn_syntax.specs.declared.token.Token.{Token}
+use Rattle.bqn_syntax.specs.Tree.{Stmt}
+use Rattle.bqn_syntax.specs.Tokens.{tokens_of_source}
 use Rattle.bqn_syntax.specs.Form.{tree_of}
 use Rattle.bqn_syntax.specs.Evaluation.{Res, Gives, Faults, Spends, evaluated}
 use Rattle.bqn_cli.specs.Command.{Command, Run, NoCommand}
@@ -34,13 +36,18 @@ ended (Gives u s) = record { out = s.written; status = status.Done }
 ended (Faults fault s) = record { out = s.written ++ encode_utf8_all (error_line fault); status = status.Fault }
 ended (Spends s) = record { out = s.written; status = status.Spent }
 
-abbrev pub tree_answer : Option Tree → Answer
+abbrev pub tree_answer : Option (List Stmt) → Answer
 tree_answer None = refused NotYet
 tree_answer (Some tree) = ended (evaluated tree default_steps)
 
+-- the refusal of a source, or what its tokens give
+abbrev pub tokens_answer : Result (List Token) Refusal → Answer
+tokens_answer (Err refusal) = refused refusal
+tokens_answer (Ok tokens) = tree_answer (tree_of tokens)
+
 -- the answer to a source
 abbrev pub source_answer : List ℕ → Answer
-source_answer source = tree_answer (tree_of source)
+source_answer source = tokens_answer (tokens_of_source source)
 
 abbrev pub usage_answer : Answer
 usage_answer = record { out = encode_utf8_all usage_line; status = status.Usage }

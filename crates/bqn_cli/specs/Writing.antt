@@ -2,7 +2,7 @@
 use Rattle.std.specs.Prelude.{◌≡◌, ℕ, List, Option, Some, None, Result, Ok, Err}
 use Rattle.bqn_base.specs.declared.status.Status.{Status}
 use Rattle.bqn_base.specs.declared.status.Status.TheVariants as status
-use Rattle.bqn_base.specs.declared.refusal.Refusal.TheVariants.{NotYet}
+use Rattle.bqn_base.specs.declared.refusal.Refusal.TheVariants.{TooLong}
 use Rattle.bqn_io.specs.declared.files.Fetched.{Fetched}
 use Rattle.bqn_io.specs.declared.files.Fetched.TheVariants.{Whole, Longer}
 use Rattle.bqn_io.specs.Writing.{Adds, AddsPart, Breaks}
@@ -17,10 +17,10 @@ status_of (Ok answered) = answered
 status_of (Err Memory) = status.Memory
 status_of (Err WriteFault) = status.WriteFault
 
--- the answer to what a fetch gave; a file of more bytes than any source has is not of the form that is built so far
+-- the answer to what a fetch gave
 abbrev pub fetched_answer : Fetched → Answer
 fetched_answer (Whole source) = source_answer source
-fetched_answer Longer = refused NotYet
+fetched_answer Longer = refused TooLong
 
 module _ {K : Type 0} (written : K → Option (List ℕ)) (room faults : K → ℕ) where
   -- an answer is given: all its bytes, and its status; want of memory and a failed put leave a front of its bytes

@@ -32,7 +32,7 @@ fn give<K: Sink>(alloc: Global, fetched: Fetched, output: &mut K) -> Result<Stat
 {
     match fetched {
         Fetched::Whole(source) => run_source(alloc, source.list(), output),
-        Fetched::Longer => refuse(alloc, Refusal::NotYet, output),
+        Fetched::Longer => refuse(alloc, Refusal::TooLong, output),
     }
 }
 

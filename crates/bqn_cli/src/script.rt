@@ -2,8 +2,9 @@
 
 ghost use Rattle.std.specs.Prelude.{◌≡◌, IsSome, MatchResult, encode_utf8_all};
 ghost use Rattle.bqn_io.specs.Writing.{Adds, Breaks};
+ghost use Rattle.bqn_syntax.specs.Form.{tree_of};
 ghost use Rattle.bqn_machine.specs.Execution.{executed};
-ghost use Rattle.bqn_cli.specs.Answer.{default_steps, faulted, refused, source_answer};
+ghost use Rattle.bqn_cli.specs.Answer.{default_steps, faulted, refused, source_answer, tree_answer};
 ghost use Rattle.bqn_cli.specs.Writing.{Gives, GivesRun};
 
 use crate::halted::Halted;
@@ -11,6 +12,8 @@ use crate::lines::{error_line, refusal_line};
 use bqn_base::{Fault, Refusal, Status};
 use bqn_io::{Failed, Sink};
 use bqn_machine::{CompileError, End, Instr, compile, run_code};
+use bqn_syntax::Token;
+use bqn_token::{TokenError, tokens};
 use std::alloc::Global;
 
 /// The steps that a run has where none are asked for.
@@ -68,8 +71,20 @@ fn run<K: Sink>(alloc: Global, code: &[Instr], out: &mut K) -> Result<Status, Ha
     }
 }
 
-/// Compiles and runs a source.
+/// Compiles and runs the tokens of a source.
 #[tactic(auto, using(crate::proofs::Ended::source_laws))]
+fn run_tokens<K: Sink>(alloc: Global, tokens: &[Token], out: &mut K) -> Result<Status, Halted>
+    ensures { Gives K.written K.room K.faults (tree_answer (tree_of tokens.now)) out.old out.new result }
+{
+    match compile(alloc, tokens) {
+        Ok(code) => run(alloc, &code, out),
+        Err(CompileError::NotYet) => refuse(alloc, Refusal::NotYet, out),
+        Err(CompileError::Memory) => Err(Halted::Memory),
+    }
+}
+
+/// Refuses a source, or runs it.
+#[tactic(auto, using(crate::proofs::Ended::token_laws))]
 pub(crate) fn run_source<K: Sink>(
     alloc: Global,
     source: &[u8],
@@ -77,9 +92,9 @@ pub(crate) fn run_source<K: Sink>(
 ) -> Result<Status, Halted>
     ensures { Gives K.written K.room K.faults (source_answer source.now) out.old out.new result }
 {
-    match compile(alloc, source) {
-        Ok(code) => run(alloc, &code, out),
-        Err(CompileError::NotYet) => refuse(alloc, Refusal::NotYet, out),
-        Err(CompileError::Memory) => Err(Halted::Memory),
+    match tokens(alloc, source) {
+        Ok(tokens) => run_tokens(alloc, &tokens, out),
+        Err(TokenError::Refused(refusal)) => refuse(alloc, refusal, out),
+        Err(TokenError::Memory) => Err(Halted::Memory),
     }
 }

@@ -43,8 +43,6 @@ fn scripts(rt: HostRuntime) -> Result<(), Fail> {
         ),
         ("•Show 10-2-3", "11\n", Status::Done),
         ("1 •Show 2", "Error: Domain\n", Status::Fault),
-        ("•Show (", not_yet, Status::Refused),
-        ("•Show 7÷2", not_yet, Status::Refused),
         (
             "•Show 1,•Show ×-7\n⋄•Show\t¯2×3,,",
             "1\n¯1\n¯6\n",
@@ -55,14 +53,42 @@ fn scripts(rt: HostRuntime) -> Result<(), Fail> {
             "¯9223372036854775808\nError: Overflow\n",
             Status::Fault,
         ),
-        ("•Show ¯0\n•Show ×0", "0\n0\n", Status::Done),
-        ("•Show 9223372036854775808", not_yet, Status::Refused),
-        ("¯", not_yet, Status::Refused),
+        ("•Show ¯0\n•SHOW ×0 # zero\r\n", "0\n0\n", Status::Done),
+        ("•Show 1_0e2-1_e1", "990\n", Status::Done),
+        ("a_B←1e3 # c\n•Show ab-1_0", "990\n", Status::Done),
+        ("a←2 ⋄ b←a×(a+3) ⋄ •Show -b", "¯10\n", Status::Done),
+        ("•Show(•Show 1)+(•Show 2)", "2\n1\n3\n", Status::Done),
+        ("•Show ((1))-(2-(3))", "2\n", Status::Done),
+        (
+            "a←•Show 1⋄•Show 9223372036854775807+a⋄•Show a",
+            "1\nError: Overflow\n",
+            Status::Fault,
+        ),
+        ("•Show a⋄a←1", not_yet, Status::Refused),
+        ("a←1⋄a←2", not_yet, Status::Refused),
+        ("a←a", not_yet, Status::Refused),
+        ("A←1", not_yet, Status::Refused),
+        ("1+(a←2)", not_yet, Status::Refused),
+        ("(1⋄2)", not_yet, Status::Refused),
+        ("1)", not_yet, Status::Refused),
+        ("()", not_yet, Status::Refused),
+        ("•Show (", not_yet, Status::Refused),
+        ("•Show 7÷2", not_yet, Status::Refused),
         ("1 2", not_yet, Status::Refused),
-        ("•Show 1 # one", not_yet, Status::Refused),
-        ("•Show 1\r\n", not_yet, Status::Refused),
-        ("•SHOW 1", not_yet, Status::Refused),
-        ("•Show 1_0", not_yet, Status::Refused),
+        ("•show 1", not_yet, Status::Refused),
+        ("$", "Refused: BadChar 1:1\n", Status::Refused),
+        ("'ab'", "Refused: OpenQuote 1:1\n", Status::Refused),
+        ("3i4", "Refused: BadNumber 1:1\n", Status::Refused),
+        ("1.5", "Refused: NumberRange 1:1\n", Status::Refused),
+        ("∞", "Refused: NumberRange 1:1\n", Status::Refused),
+        ("_1", "Refused: BadName 1:1\n", Status::Refused),
+        ("•Show \"ab", "Refused: OpenQuote 1:7\n", Status::Refused),
+        (
+            "•Show 9223372036854775808",
+            "Refused: NumberRange 1:7\n",
+            Status::Refused,
+        ),
+        ("\t¯", "Refused: BadNumber 1:2\n", Status::Refused),
     ] {
         let (ended, bytes) = ran(&rt, "run f", source.as_bytes(), &[])?;
         assert_eq!(rt; bytes.as_slice(), written.as_bytes(), "{source}");
@@ -71,18 +97,83 @@ fn scripts(rt: HostRuntime) -> Result<(), Fail> {
     Ok(())
 }
 
-#[test]
-fn sources_of_bytes(rt: HostRuntime) -> Result<(), Fail> {
-    let alloc = rt.alloc();
-    let spaces = vec![in alloc; b' '; 4097]?;
-    let (status, bytes) = ran(&rt, "run f", &spaces[..4096], &[])?;
-    assert_eq!(rt; status, Status::Done);
-    assert_eq!(rt; bytes.len(), 0);
-    for source in [spaces.as_slice(), b"1\n\xff".as_slice()] {
-        let (status, bytes) = ran(&rt, "run f", source, &[])?;
-        assert_eq!(rt; status, Status::Refused);
-        assert_eq!(rt; bytes.as_slice(), b"Refused: NotYet\n".as_slice());
+fn repeated(alloc: Global, byte: u8, count: u32) -> Result<Vec<u8>, AllocError> {
+    let mut bytes = Vec::new(alloc);
+    for _ in 0..count {
+        bytes.push(byte)?;
     }
+    Ok(bytes)
+}
+
+#[test]
+fn sources_of_many_bytes(rt: HostRuntime) -> Result<(), Fail> {
+    for (byte, count, written) in [
+        (b' ', 1_048_577, "Refused: TooLong\n"),
+        (b' ', 1_048_576, ""),
+        (b',', 4097, "Refused: NotYet\n"),
+        (b',', 4096, ""),
+    ] {
+        let source = repeated(rt.alloc(), byte, count)?;
+        let (_, bytes) = ran(&rt, "run f", &source, &[])?;
+        assert_eq!(rt; bytes.as_slice(), written.as_bytes(), "{count}");
+    }
+    let (_, bytes) = ran(&rt, "run f", b"1\n\xff", &[])?;
+    assert_eq!(rt;
+        bytes.as_slice(),
+        b"Refused: NotUtf8 at byte 2\n".as_slice()
+    );
+    Ok(())
+}
+
+#[test]
+fn parentheses(rt: HostRuntime) -> Result<(), Fail> {
+    let alloc = rt.alloc();
+    for (depth, written) in [(128, "1\n"), (129, "Refused: NotYet\n")] {
+        let mut source = String::from_str(alloc, "•Show ")?;
+        for _ in 0..depth {
+            source.push('(')?;
+        }
+        source.push('1')?;
+        for _ in 0..depth {
+            source.push(')')?;
+        }
+        let (_, bytes) = ran(&rt, "run f", source.as_bytes(), &[])?;
+        assert_eq!(rt; bytes.as_slice(), written.as_bytes(), "at {depth}");
+    }
+    Ok(())
+}
+
+#[test]
+fn places_of_refusals(rt: HostRuntime) -> Result<(), Fail> {
+    let alloc = rt.alloc();
+    for (bad, kind) in [
+        ("$", "BadChar"),
+        ("\"", "OpenQuote"),
+        ("3i4", "BadNumber"),
+        ("1.5", "NumberRange"),
+        ("_1", "BadName"),
+    ] {
+        for (front, back, place) in [
+            ("", "\n1", "1:1"),
+            ("1⋄'é'\n\t\"€\" ", " ⋄2", "2:6"),
+            ("'𝕩'\n\n1 ", "", "3:3"),
+        ] {
+            let source = format!(in alloc; "{front}{bad}{back}")?;
+            let written = format!(in alloc; "Refused: {kind} {place}\n")?;
+            let (_, bytes) = ran(&rt, "run f", source.as_bytes(), &[])?;
+            assert_eq!(rt; bytes.as_slice(), written.as_bytes(), "{source}");
+        }
+    }
+    Ok(())
+}
+
+#[test]
+fn every_symbol(rt: HostRuntime) -> Result<(), Fail> {
+    let source =
+        "+-×÷⋆√⌊⌈|¬∧∨<>≠=≤≥≡≢⊣⊢⥊∾≍⋈↑↓↕«»⌽⍉/⍋⍒⊏⊑⊐⊒∊⍷⊔!˙˜˘¨⌜⁼´˝`∘○⊸⟜⌾⊘◶⎉⚇⍟⎊←⇐↩(){}⟨⟩[]‿·⋄,.;:?\n𝕨𝕩𝕤𝕗𝕘𝕎𝕏𝕊𝔽𝔾𝕣 _𝕣 _𝕣_ @ '@' \"\" •x F _m _d_";
+    let (status, bytes) = ran(&rt, "run f", source.as_bytes(), &[])?;
+    assert_eq!(rt; bytes.as_slice(), b"Refused: NotYet\n".as_slice());
+    assert_eq!(rt; status, Status::Refused);
     Ok(())
 }
 
@@ -117,6 +208,7 @@ fn failing_sinks(rt: HostRuntime) -> Result<(), Fail> {
         ("run f", "•Show 1⋄•Show 2⋄•Show 3", 2, "1\n"),
         ("run f", "•Show 1⋄1-¯9223372036854775808", 2, "1\n"),
         ("run f", "÷", 1, ""),
+        ("run f", "$", 1, ""),
         ("", "", 1, ""),
     ] {
         let (status, bytes) = ran(&rt, line, source.as_bytes(), &[failing])?;

@@ -1,31 +1,33 @@
 -- Compiling joins reading, the translation and its meaning.
-use Rattle.std.proofs.Common.{◌≡◌, Option, Some, None, Ok, Err, sym, ap, ◌∙◌, subst, List}
+use Rattle.std.proofs.Common.{◌≡◌, Option, Some, None, Result, Ok, Err, refl, sym, ap, ◌∙◌, subst, List}
 use Rattle.std.specs.Option.{option_map}
 use Rattle.std.specs.declared.vec.Vec.{Vec}
 use Rattle.std.specs.declared.alloc.Global.{Global}
-use Rattle.bqn_syntax.specs.declared.tree.Tree.{Tree}
+use Rattle.bqn_syntax.specs.Tree.{Stmt}
 use Rattle.bqn_machine.specs.declared.code.Instr.{Instr}
 use Rattle.bqn_machine.specs.declared.error.CompileError.{CompileError}
 use Rattle.bqn_machine.specs.declared.error.CompileError.TheVariants.{NotYet, Memory}
 use Rattle.bqn_machine.specs.Execution.{executed}
 use Rattle.bqn_machine.specs.Translation.{translation}
-use Rattle.bqn_machine.specs.Reading.{Reads, ReadsAs}
+use Rattle.bqn_machine.specs.Reading.{ReadsAs}
 use Rattle.bqn_machine.specs.Compiling.{Compiles}
 use Rattle.bqn_machine.proofs.Simulation.{executed-translation}
 
-pub translated : (t : Option Tree) (tree : Tree) (code : Vec Instr Global) → t ≡ Some tree → code.items ≡ translation tree → option_map translation t ≡ Some code.items
-translated t tree code e h = ap (λ (o : Option Tree). option_map translation o) e ∙ ap (λ (c : List Instr). Some c) (sym h)
+read-some : (t : Option (List Stmt)) (code : List Instr) → option_map translation t ≡ Some code → (sts : List Stmt) × (t ≡ Some sts) × (translation sts ≡ code)
+read-some None code e = absurd (let p : None ≡ Some code = e in cc)
+read-some (Some sts) code e = (sts, refl, cc)
 
-pub compiles-ok : (t : Option Tree) (tree : Tree) (code : Vec Instr Global) → t ≡ Some tree → code.items ≡ translation tree → Compiles t (Ok code)
-compiles-ok t tree code e h = subst (λ (o : Option Tree). Compiles o (Ok code)) (sym e) (λ steps. ap (λ (c : List Instr). executed c steps) h ∙ executed-translation tree steps)
+read-none : (t : Option (List Stmt)) → option_map translation t ≡ None → t ≡ None
+read-none None e = refl
+read-none (Some sts) e = absurd (let p : Some (translation sts) ≡ None = e in cc)
 
-pub translated-err : (t : Option Tree) (error : CompileError) → Reads {A = Tree} t (Err error) → ReadsAs {A = List Instr} {V = Vec Instr Global} (λ code. code.items) (option_map translation t) (Err error)
-translated-err t NotYet h = ap (λ (o : Option Tree). option_map translation o) h
-translated-err t Memory h = tt
+-- code that is the translation of a tree means what the tree means
+pub compiles-read : (t : Option (List Stmt)) (result : Result (Vec Instr Global) CompileError) → ReadsAs {A = List Instr} {V = Vec Instr Global} (λ code. code.items) (option_map translation t) result → Compiles t result
+compiles-read t (Ok code) h =
+    let r = read-some t code.items h in
+    subst (λ (o : Option (List Stmt)). Compiles o (Ok code)) (sym r.1) (λ steps. ap (λ (c : List Instr). executed c steps) (sym r.2) ∙ executed-translation r.0 steps)
+compiles-read t (Err NotYet) h = subst (λ (o : Option (List Stmt)). Compiles o (Err NotYet)) (sym (read-none t h)) tt
+compiles-read None (Err Memory) h = tt
+compiles-read (Some sts) (Err Memory) h = tt
 
-pub compiles-err : (t : Option Tree) (error : CompileError) → Reads {A = Tree} t (Err error) → Compiles t (Err error)
-compiles-err t NotYet h = subst (λ (o : Option Tree). Compiles o (Err NotYet)) (sym h) tt
-compiles-err None Memory h = tt
-compiles-err (Some tree) Memory h = tt
-
-pub ruleset compile_laws = (translated, compiles-ok, translated-err, compiles-err)
+pub ruleset compile_laws = (compiles-read)

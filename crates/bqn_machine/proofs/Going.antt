@@ -1,17 +1,18 @@
 -- A run in the midst of its code.
-use Rattle.std.proofs.Common.{◌≡◌, ◌≢◌, ◌-◌, ℕ, zero, suc, ℤ, List, [], ◌∷◌, ◌++◌, Option, Some, None, Result, Ok, Err, refl, sym, ap, ◌∙◌, subst, append_assoc, arith, rules, ◌<◌, ◌+◌, drop, get_or, length, drop-cons, add-one}
+use Rattle.std.proofs.Common.{◌≡◌, ◌≢◌, ◌-◌, ℕ, zero, suc, ℤ, List, [], ◌∷◌, ◌++◌, slice_get, Option, Some, None, Result, Ok, Err, refl, sym, ap, ◌∙◌, subst, append_assoc, arith, rules, ◌<◌, ◌+◌, drop, get_or, length, drop-cons, add-one}
 use Rattle.std.specs.Prelude.{IsSome}
 use Rattle.std.proofs.lemmas.List.{append-nil}
 use Rattle.bqn_base.specs.declared.fault.Fault.{Fault}
+use Rattle.bqn_base.specs.declared.fault.Fault.TheVariants.{Undefined}
 use Rattle.bqn_io.specs.Writing.{Adds, AddsPart, Breaks}
 use Rattle.bqn_io.proofs.Writing.{adds-nothing, adds-then, adds-then-part, adds-then-breaks}
-use Rattle.bqn_syntax.specs.Evaluation.{State, Res, Gives, Faults, Spends, wrote, answered, answer_of, output_of}
+use Rattle.bqn_syntax.specs.Evaluation.{State, Res, Gives, Faults, Spends, wrote, answered, answer_of, output_of, known_value}
 use Rattle.bqn_machine.specs.declared.code.Instr.{Instr}
-use Rattle.bqn_machine.specs.declared.code.Instr.TheVariants.{Const, Call1, Call2, Pop}
+use Rattle.bqn_machine.specs.declared.code.Instr.TheVariants.{Const, Load, Define, Call1, Call2, Pop}
 use Rattle.bqn_machine.specs.declared.end.End.{End}
 use Rattle.bqn_machine.specs.declared.end.End.TheVariants as end
 use Rattle.bqn_machine.specs.Execution.{Run, on_answer, exec, executed}
-use Rattle.bqn_machine.specs.Running.{Act, pushed, act, written_by, Acts, Ends, EndsAs}
+use Rattle.bqn_machine.specs.Running.{Act, pushed, loaded, act, vars_behind, written_by, Acts, Ends, EndsAs}
 
 -- how a run goes on after an answer
 abbrev after_answer : Result (List ℤ) Fault → List Instr → State → Run
@@ -30,8 +31,19 @@ after_answer-pushed : (r : Result ℤ Fault) (stack : List ℤ) (code : List Ins
 after_answer-pushed (Ok y) stack code t = refl
 after_answer-pushed (Err f) stack code t = refl
 
-exec-act : (i : Instr) (code : List Instr) (stack : List ℤ) (s : State) → exec (i ∷ code) stack s ≡ after_act (act i stack) code s
+after_answer-loaded : (o : Option ℤ) (stack : List ℤ) (code : List Instr) (s : State) → on_answer (known_value o s) (λ y t. exec code (y ∷ stack) t) ≡ after_answer (loaded stack o) code (wrote s [])
+after_answer-loaded None stack code s = ap (λ (t : State). Some (Faults Undefined t)) (wrote-nil s)
+after_answer-loaded (Some v) stack code s = ap (λ (t : State). exec code (v ∷ stack) t) (wrote-nil s)
+
+-- a state with other values of the names
+abbrev with_vars : State → List ℤ → State
+with_vars s vars = record s { vars = vars }
+
+exec-act : (i : Instr) (code : List Instr) (stack : List ℤ) (s : State) → exec (i ∷ code) stack s ≡ after_act (act i stack s.vars) code (with_vars s (vars_behind i stack s.vars))
 exec-act (Const x) code stack s = ap (λ (t : State). exec code (x ∷ stack) t) (wrote-nil s)
+exec-act (Load number) code stack s = after_answer-loaded (slice_get s.vars number) stack code s
+exec-act Define code [] s = refl
+exec-act Define code (x ∷ stack) s = ap (λ (t : State). exec code (x ∷ stack) t) (wrote-nil (with_vars s (s.vars ++ x ∷ [])))
 exec-act (Call1 f) code [] s = refl
 exec-act (Call1 f) code (x ∷ stack) s = after_answer-pushed (answer_of f None x) stack code (wrote s (output_of f None x))
 exec-act (Call2 f) code [] s = refl
@@ -72,50 +84,50 @@ grows-act code ih (Some a) s r e = front-of s.written a.output (written_by r) (g
 -- the bytes of a run only grow
 exec-grows : (code : List Instr) → Grows code
 exec-grows [] stack s r e = subst (λ (b : List ℕ). Front s.written b) (given-same r s e) (front-same s.written)
-exec-grows (i ∷ code) stack s r e = grows-act code (exec-grows code) (act i stack) s r (sym (exec-act i code stack s) ∙ e)
+exec-grows (i ∷ code) stack s r e = grows-act code (exec-grows code) (act i stack s.vars) (with_vars s (vars_behind i stack s.vars)) r (sym (exec-act i code stack s) ∙ e)
 
 module _ {K : Type 0} (written : K → Option (List ℕ)) (room faults : K → ℕ) where
   -- a run has written this front, and the rest of the code does the rest
-  pub record Going (whole : Run) (code : List Instr) (stack : List ℤ) (left : ℕ) (old now : K) : Type 0 where
+  pub record Going (whole : Run) (code : List Instr) (stack vars : List ℤ) (left : ℕ) (old now : K) : Type 0 where
     pub front : List ℕ
-    pub whole_is : whole ≡ exec code stack (record { written = front; left = left })
+    pub whole_is : whole ≡ exec code stack (record { written = front; left = left; vars = vars })
     pub adds : Adds written room faults old now front
 
-  executed-some : (code : List Instr) (steps : ℕ) → steps ≢ 0 → executed code steps ≡ exec code [] (record { written = []; left = steps - 1 })
+  executed-some : (code : List Instr) (steps : ℕ) → steps ≢ 0 → executed code steps ≡ exec code [] (record { written = []; left = steps - 1; vars = [] })
   executed-some code zero h = absurd (h refl)
-  executed-some code (suc n) h = let e : n ≡ suc n - 1 = omega arith in ap (λ (left : ℕ). exec code [] (record { written = []; left = left })) e
+  executed-some code (suc n) h = let e : n ≡ suc n - 1 = omega arith in ap (λ (left : ℕ). exec code [] (record { written = []; left = left; vars = [] })) e
 
-  pub going-start : (code : List Instr) (steps : ℕ) (k : K) → steps ≢ 0 → Going (executed code steps) code [] (steps - 1) k k
+  pub going-start : (code : List Instr) (steps : ℕ) (k : K) → steps ≢ 0 → Going (executed code steps) code [] [] (steps - 1) k k
   going-start code steps k h = record { front = []; whole_is = executed-some code steps h; adds = adds-nothing written room faults k }
 
   pub ends-spent : (code : List Instr) (steps : ℕ) (k : K) → steps ≡ 0 → EndsAs written room faults (executed code steps) k k end.Spent
   ends-spent code steps k e = subst (λ (n : ℕ). EndsAs written room faults (executed code n) k k end.Spent) (sym e) (adds-nothing written room faults k)
 
-  pub going-end : (whole : Run) (stack : List ℤ) (left : ℕ) (old now : K) → Going whole [] stack left old now → EndsAs written room faults whole old now end.Done
-  going-end whole stack left old now g = rw g.whole_is g.adds
+  pub going-end : (whole : Run) (stack vars : List ℤ) (left : ℕ) (old now : K) → Going whole [] stack vars left old now → EndsAs written room faults whole old now end.Done
+  going-end whole stack vars left old now g = rw g.whole_is g.adds
 
   act-some : (a : Option Act) (code : List Instr) (s : State) → IsSome (after_act a code s) → IsSome a
   act-some None code s h = h
   act-some (Some a) code s h = search rules
 
-  pub going-some : (whole : Run) (i : Instr) (code : List Instr) (stack : List ℤ) (left : ℕ) (old now : K) → IsSome whole → Going whole (i ∷ code) stack left old now → IsSome (act i stack)
-  going-some whole i code stack left old now h g =
-      act-some (act i stack) code (record { written = g.front; left = left }) (subst (λ (r : Run). IsSome r) (g.whole_is ∙ exec-act i code stack _) h)
+  pub going-some : (whole : Run) (i : Instr) (code : List Instr) (stack vars : List ℤ) (left : ℕ) (old now : K) → IsSome whole → Going whole (i ∷ code) stack vars left old now → IsSome (act i stack vars)
+  going-some whole i code stack vars left old now h g =
+      act-some (act i stack vars) code (record { written = g.front; left = left; vars = vars_behind i stack vars }) (subst (λ (r : Run). IsSome r) (g.whole_is ∙ exec-act i code stack (record { written = g.front; left = left; vars = vars })) h)
 
-  step-after : (whole : Run) (a : Option Act) (code : List Instr) (stack : List ℤ) (left : ℕ) (old mid new : K) (front : List ℕ)
-      → whole ≡ after_act a code (record { written = front; left = left }) → Adds written room faults old mid front → Acts written room faults a stack mid new (Ok tt)
-      → Going whole code stack left old new
-  step-after whole None code stack left old mid new front w a h = absurd h
-  step-after whole (Some act) code stack left old mid new front w a h = record {
+  step-after : (whole : Run) (a : Option Act) (code : List Instr) (stack vars : List ℤ) (left : ℕ) (old mid new : K) (front : List ℕ)
+      → whole ≡ after_act a code (record { written = front; left = left; vars = vars }) → Adds written room faults old mid front → Acts written room faults a stack mid new (Ok tt)
+      → Going whole code stack vars left old new
+  step-after whole None code stack vars left old mid new front w a h = absurd h
+  step-after whole (Some act) code stack vars left old mid new front w a h = record {
     front = front ++ act.output;
-    whole_is = w ∙ ap (λ (r : Result (List ℤ) Fault). after_answer r code (record { written = front ++ act.output; left = left })) h.0;
+    whole_is = w ∙ ap (λ (r : Result (List ℤ) Fault). after_answer r code (record { written = front ++ act.output; left = left; vars = vars })) h.0;
     adds = adds-then written room faults old mid new front act.output a h.1;
   }
 
-  pub going-step : (whole : Run) (i : Instr) (code : List Instr) (stack after : List ℤ) (left : ℕ) (old mid new : K)
-      → Going whole (i ∷ code) stack left old mid → Acts written room faults (act i stack) after mid new (Ok tt) → Going whole code after left old new
-  going-step whole i code stack after left old mid new g h =
-      step-after whole (act i stack) code after left old mid new g.front (g.whole_is ∙ exec-act i code stack _) g.adds h
+  pub going-step : (whole : Run) (i : Instr) (code : List Instr) (stack vars after : List ℤ) (left : ℕ) (old mid new : K)
+      → Going whole (i ∷ code) stack vars left old mid → Acts written room faults (act i stack vars) after mid new (Ok tt) → Going whole code after (vars_behind i stack vars) left old new
+  going-step whole i code stack vars after left old mid new g h =
+      step-after whole (act i stack vars) code after (vars_behind i stack vars) left old mid new g.front (g.whole_is ∙ exec-act i code stack (record { written = g.front; left = left; vars = vars })) g.adds h
 
   front-after : (a : Act) (code : List Instr) (s : State) (r : Res (Unit {0})) → after_act (Some a) code s ≡ Some r → Front (s.written ++ a.output) (written_by r)
   front-after a code s r e = grows-answer code (exec-grows code) a.answer (wrote s a.output) r e
@@ -131,43 +143,45 @@ module _ {K : Type 0} (written : K → Option (List ℕ)) (room faults : K → �
   ends-write_fault (Spends s) old new p = p
 
   -- what a halted instruction leaves, where the run would have been this one
-  halt-after : (r : Res (Unit {0})) (a : Act) (code : List Instr) (stack : List ℤ) (left : ℕ) (old mid new : K) (front : List ℕ) (e : End)
-      → Some r ≡ after_act (Some a) code (record { written = front; left = left }) → Adds written room faults old mid front → Acts written room faults (Some a) stack mid new (Err e)
+  halt-after : (r : Res (Unit {0})) (a : Act) (code : List Instr) (stack vars : List ℤ) (left : ℕ) (old mid new : K) (front : List ℕ) (e : End)
+      → Some r ≡ after_act (Some a) code (record { written = front; left = left; vars = vars }) → Adds written room faults old mid front → Acts written room faults (Some a) stack mid new (Err e)
       → EndsAs written room faults (Some r) old new e
-  halt-after r a code stack left old mid new front (end.Faulted f) w adds h =
-      let faults_so : Some r ≡ Some (Faults f (record { written = front ++ a.output; left = left })) = w ∙ ap (λ (x : Result (List ℤ) Fault). after_answer x code (record { written = front ++ a.output; left = left })) h.0 in
+  halt-after r a code stack vars left old mid new front (end.Faulted f) w adds h =
+      let faults_so : Some r ≡ Some (Faults f (record { written = front ++ a.output; left = left; vars = vars })) = w ∙ ap (λ (x : Result (List ℤ) Fault). after_answer x code (record { written = front ++ a.output; left = left; vars = vars })) h.0 in
       subst (λ (o : Run). EndsAs written room faults o old new (end.Faulted f)) (sym faults_so) (refl, adds-then written room faults old mid new front a.output adds h.1)
-  halt-after r a code stack left old mid new front end.Memory w adds h =
-      let f : Front (front ++ a.output) (written_by r) = front-after a code (record { written = front; left = left }) r (sym w) in
+  halt-after r a code stack vars left old mid new front end.Memory w adds h =
+      let f : Front (front ++ a.output) (written_by r) = front-after a code (record { written = front; left = left; vars = vars }) r (sym w) in
       ends-memory r old new (subst (λ (b : List ℕ). AddsPart written room faults old new b) (sym f.whole) (adds-then-part written room faults old mid new front a.output f.rest adds h))
-  halt-after r a code stack left old mid new front end.WriteFault w adds h =
-      let f : Front (front ++ a.output) (written_by r) = front-after a code (record { written = front; left = left }) r (sym w) in
+  halt-after r a code stack vars left old mid new front end.WriteFault w adds h =
+      let f : Front (front ++ a.output) (written_by r) = front-after a code (record { written = front; left = left; vars = vars }) r (sym w) in
       ends-write_fault r old new (subst (λ (b : List ℕ). Breaks written room faults old new b) (sym f.whole) (adds-then-breaks written room faults old mid new front a.output f.rest adds h))
-  halt-after r a code stack left old mid new front end.Done w adds h = absurd h
-  halt-after r a code stack left old mid new front end.Spent w adds h = absurd h
+  halt-after r a code stack vars left old mid new front end.Done w adds h = absurd h
+  halt-after r a code stack vars left old mid new front end.Spent w adds h = absurd h
 
-  halt-some : (whole : Run) (a : Option Act) (code : List Instr) (stack : List ℤ) (left : ℕ) (old mid new : K) (front : List ℕ) (e : End)
-      → IsSome whole → whole ≡ after_act a code (record { written = front; left = left }) → Adds written room faults old mid front → Acts written room faults a stack mid new (Err e)
+  halt-some : (whole : Run) (a : Option Act) (code : List Instr) (stack vars : List ℤ) (left : ℕ) (old mid new : K) (front : List ℕ) (e : End)
+      → IsSome whole → whole ≡ after_act a code (record { written = front; left = left; vars = vars }) → Adds written room faults old mid front → Acts written room faults a stack mid new (Err e)
       → EndsAs written room faults whole old new e
-  halt-some whole None code stack left old mid new front e some w adds h = absurd h
-  halt-some None (Some a) code stack left old mid new front e some w adds h = absurd (search rules)
-  halt-some (Some r) (Some a) code stack left old mid new front e some w adds h = halt-after r a code stack left old mid new front e w adds h
+  halt-some whole None code stack vars left old mid new front e some w adds h = absurd h
+  halt-some None (Some a) code stack vars left old mid new front e some w adds h = absurd (search rules)
+  halt-some (Some r) (Some a) code stack vars left old mid new front e some w adds h = halt-after r a code stack vars left old mid new front e w adds h
 
-  pub going-halt : (whole : Run) (i : Instr) (code : List Instr) (stack after : List ℤ) (left : ℕ) (old mid new : K) (e : End)
-      → IsSome whole → Going whole (i ∷ code) stack left old mid → Acts written room faults (act i stack) after mid new (Err e) → EndsAs written room faults whole old new e
-  going-halt whole i code stack after left old mid new e some g h =
-      halt-some whole (act i stack) code after left old mid new g.front e some (g.whole_is ∙ exec-act i code stack _) g.adds h
+  pub going-halt : (whole : Run) (i : Instr) (code : List Instr) (stack vars after : List ℤ) (left : ℕ) (old mid new : K) (e : End)
+      → IsSome whole → Going whole (i ∷ code) stack vars left old mid → Acts written room faults (act i stack vars) after mid new (Err e) → EndsAs written room faults whole old new e
+  going-halt whole i code stack vars after left old mid new e some g h =
+      halt-some whole (act i stack vars) code after (vars_behind i stack vars) left old mid new g.front e some (g.whole_is ∙ exec-act i code stack (record { written = g.front; left = left; vars = vars })) g.adds h
 
-  going-at : (whole : Run) (code : List Instr) (k : ℕ) (d : Instr) (stack : List ℤ) (left : ℕ) (old now : K) → k < length code → Going whole (drop k code) stack left old now → Going whole (get_or code k d ∷ drop (k + 1) code) stack left old now
-  going-at whole code k d stack left old now lt g =
-      subst (λ (is : List Instr). Going whole is stack left old now) (drop-cons code k d lt ∙ ap (λ (n : ℕ). get_or code k d ∷ drop n code) (sym (add-one k))) g
+  going-at : (whole : Run) (code : List Instr) (k : ℕ) (d : Instr) (stack vars : List ℤ) (left : ℕ) (old now : K) → k < length code → Going whole (drop k code) stack vars left old now → Going whole (get_or code k d ∷ drop (k + 1) code) stack vars left old now
+  going-at whole code k d stack vars left old now lt g =
+      subst (λ (is : List Instr). Going whole is stack vars left old now) (drop-cons code k d lt ∙ ap (λ (n : ℕ). get_or code k d ∷ drop n code) (sym (add-one k))) g
 
-  pub going-step-at : (whole : Run) (code : List Instr) (k : ℕ) (d : Instr) (stack after : List ℤ) (left : ℕ) (old mid new : K)
-      → k < length code → Going whole (drop k code) stack left old mid → Acts written room faults (act (get_or code k d) stack) after mid new (Ok tt) → Going whole (drop (k + 1) code) after left old new
-  going-step-at whole code k d stack after left old mid new lt g h =
-      going-step whole (get_or code k d) (drop (k + 1) code) stack after left old mid new (going-at whole code k d stack left old mid lt g) h
+  pub going-step-at : (whole : Run) (code : List Instr) (k : ℕ) (d : Instr) (stack vars after after_vars : List ℤ) (left : ℕ) (old mid new : K)
+      → k < length code → Going whole (drop k code) stack vars left old mid → Acts written room faults (act (get_or code k d) stack vars) after mid new (Ok tt)
+      → after_vars ≡ vars_behind (get_or code k d) stack vars → Going whole (drop (k + 1) code) after after_vars left old new
+  going-step-at whole code k d stack vars after after_vars left old mid new lt g h e =
+      subst (λ (vs : List ℤ). Going whole (drop (k + 1) code) after vs left old new) (sym e)
+      (going-step whole (get_or code k d) (drop (k + 1) code) stack vars after left old mid new (going-at whole code k d stack vars left old mid lt g) h)
 
-  pub going-halt-at : (whole : Run) (code : List Instr) (k : ℕ) (d : Instr) (stack after : List ℤ) (left : ℕ) (old mid new : K) (e : End)
-      → IsSome whole → k < length code → Going whole (drop k code) stack left old mid → Acts written room faults (act (get_or code k d) stack) after mid new (Err e) → EndsAs written room faults whole old new e
-  going-halt-at whole code k d stack after left old mid new e some lt g h =
-      going-halt whole (get_or code k d) (drop (k + 1) code) stack after left old mid new e some (going-at whole code k d stack left old mid lt g) h
+  pub going-halt-at : (whole : Run) (code : List Instr) (k : ℕ) (d : Instr) (stack vars after : List ℤ) (left : ℕ) (old mid new : K) (e : End)
+      → IsSome whole → k < length code → Going whole (drop k code) stack vars left old mid → Acts written room faults (act (get_or code k d) stack vars) after mid new (Err e) → EndsAs written room faults whole old new e
+  going-halt-at whole code k d stack vars after left old mid new e some lt g h =
+      going-halt whole (get_or code k d) (drop (k + 1) code) stack vars after left old mid new e some (going-at whole code k d stack vars left old mid lt g) h

@@ -1,11 +1,9 @@
-pub mod Scan
-pub mod Digits
 pub mod Behind
-pub mod Texts
-pub mod Tokens
+pub mod Spelling
+pub mod TokenSigns
 pub mod Rows
-pub mod Statements
 pub mod Emitting
+pub mod Statements
 pub mod Simulation
 pub mod Compiled
 pub mod NumberLine

@@ -1,13 +1,13 @@
 -- One instruction: the stack from its top, and what a call leaves in the sink.
-use Rattle.std.proofs.Common.{◌≡◌, ℕ, ℤ, List, [], ◌∷◌, ◌++◌, reverse, Option, Some, Result, Err, sym, ap, ◌∙◌, subst}
+use Rattle.std.proofs.Common.{◌≡◌, ℕ, ℤ, List, [], ◌∷◌, ◌++◌, reverse, Option, Some, Result, Ok, Err, sym, ap, ◌∙◌, subst}
 use Rattle.std.proofs.lemmas.List.{append-nil, reverse-append}
 use Rattle.bqn_io.proofs.Writing.{adds-nothing}
 use Rattle.bqn_io.specs.Writing.{Adds, AddsPart}
 use Rattle.bqn_base.specs.declared.fault.Fault.{Fault}
 use Rattle.bqn_machine.specs.declared.end.End.{End}
 use Rattle.bqn_machine.specs.declared.end.End.TheVariants as end
-use Rattle.bqn_machine.specs.Running.{Calls, Acts, pushed, top_act}
-use Rattle.bqn_syntax.specs.declared.tree.Function.{Function}
+use Rattle.bqn_machine.specs.Running.{Calls, Acts, Loads, pushed, top_act}
+use Rattle.bqn_syntax.specs.declared.function.Function.{Function}
 use Rattle.bqn_syntax.specs.Evaluation.{answer_of, output_of}
 
 pub reverse-push : (xs : List ℤ) (x : ℤ) → reverse (xs ++ x ∷ []) ≡ x ∷ reverse xs
@@ -30,4 +30,13 @@ module _ {K : Type 0} (written : K → Option (List ℕ)) (room faults : K → �
       rw (ap reverse at ∙ reverse-push rest x) (acts-calls (answer_of f left x) (output_of f left x) (reverse rest) st old new e
       (subst (λ (y : ℤ). Calls written room faults (answer_of f left y) (output_of f left y) old new (Err e)) same h))
 
-pub ruleset step_laws = (reverse-push, adds-nothing, adds-all)
+  -- a name that is loaded writes nothing
+  pub acts-loads : (answer : Result (List ℤ) Fault) (st : List ℤ) (k : K) (result : Result (Unit {0}) End) → Loads answer st result → Acts written room faults (Some (record { answer = answer; output = [] })) st k k result
+  acts-loads answer st k (Ok u) h = (h, adds-nothing written room faults k)
+  acts-loads answer st k (Err (end.Faulted f)) h = (h, adds-nothing written room faults k)
+  acts-loads answer st k (Err end.Memory) h = adds-all k k [] (adds-nothing written room faults k)
+  acts-loads answer st k (Err end.WriteFault) h = absurd h
+  acts-loads answer st k (Err end.Done) h = absurd h
+  acts-loads answer st k (Err end.Spent) h = absurd h
+
+pub ruleset step_laws = (reverse-push, adds-nothing, adds-all, acts-loads)

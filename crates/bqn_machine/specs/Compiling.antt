@@ -1,8 +1,8 @@
 -- Code that means what a source means.
-use Rattle.std.specs.Prelude.{◌≡◌, ℕ, Option, Some, None, Result, Ok, Err}
+use Rattle.std.specs.Prelude.{◌≡◌, ℕ, List, Option, Some, None, Result, Ok, Err}
 use Rattle.std.specs.declared.vec.Vec.{Vec}
 use Rattle.std.specs.declared.alloc.Global.{Global}
-use Rattle.bqn_syntax.specs.declared.tree.Tree.{Tree}
+use Rattle.bqn_syntax.specs.Tree.{Stmt}
 use Rattle.bqn_syntax.specs.Evaluation.{evaluated}
 use Rattle.bqn_machine.specs.declared.code.Instr.{Instr}
 use Rattle.bqn_machine.specs.declared.error.CompileError.{CompileError}
@@ -10,7 +10,7 @@ use Rattle.bqn_machine.specs.declared.error.CompileError.TheVariants.{NotYet, Me
 use Rattle.bqn_machine.specs.Execution.{executed}
 
 -- the code of a tree does what the tree does, with any number of steps; a source without a tree has none
-abbrev pub Compiles : Option Tree → Result (Vec Instr Global) CompileError → Type 0
+abbrev pub Compiles : Option (List Stmt) → Result (Vec Instr Global) CompileError → Type 0
 Compiles (Some tree) (Ok code) = (steps : ℕ) → executed code.items steps ≡ Some (evaluated tree steps)
 Compiles None (Ok code) = ⊥
 Compiles (Some tree) (Err NotYet) = ⊥

@@ -1,5 +1,6 @@
 pub mod Reading
 pub mod Translation
+pub mod Emission
 pub mod Execution
 pub mod Compiling
 pub mod Running

@@ -1,11 +1,12 @@
 -- What a run of code has done to a sink, and how it ends.
-use Rattle.std.specs.Prelude.{◌≡◌, ℕ, ℤ, List, [], ◌∷◌, Option, Some, None, Result, Ok, Err}
+use Rattle.std.specs.Prelude.{◌≡◌, ℕ, ℤ, List, [], ◌∷◌, ◌++◌, slice_get, Option, Some, None, Result, Ok, Err}
 use Rattle.bqn_base.specs.declared.fault.Fault.{Fault}
+use Rattle.bqn_base.specs.declared.fault.Fault.TheVariants.{Undefined}
 use Rattle.bqn_io.specs.Writing.{Adds, AddsPart, Breaks}
-use Rattle.bqn_syntax.specs.declared.tree.Function.{Function}
+use Rattle.bqn_syntax.specs.declared.function.Function.{Function}
 use Rattle.bqn_syntax.specs.Evaluation.{Res, Gives, Faults, Spends, answer_of, output_of}
 use Rattle.bqn_machine.specs.declared.code.Instr.{Instr}
-use Rattle.bqn_machine.specs.declared.code.Instr.TheVariants.{Const, Call1, Call2, Pop}
+use Rattle.bqn_machine.specs.declared.code.Instr.TheVariants.{Const, Load, Define, Call1, Call2, Pop}
 use Rattle.bqn_machine.specs.declared.end.End.{End}
 use Rattle.bqn_machine.specs.declared.end.End.TheVariants as end
 use Rattle.bqn_machine.specs.Execution.{Run}
@@ -24,20 +25,39 @@ abbrev pub top_act : Function → Option ℤ → List ℤ → Option Act
 top_act f left [] = None
 top_act f left (x ∷ stack) = Some (record { answer = pushed stack (answer_of f left x); output = output_of f left x })
 
--- none where an operand is missing
-abbrev pub act : Instr → List ℤ → Option Act
-act (Const x) stack = Some (record { answer = Ok (x ∷ stack); output = [] })
-act (Call1 f) stack = top_act f None stack
-act (Call2 f) [] = None
-act (Call2 f) (w ∷ stack) = top_act f (Some w) stack
-act Pop [] = None
-act Pop (x ∷ stack) = Some (record { answer = Ok stack; output = [] })
+abbrev pub loaded : List ℤ → Option ℤ → Result (List ℤ) Fault
+loaded stack None = Err Undefined
+loaded stack (Some v) = Ok (v ∷ stack)
+
+-- an instruction on a stack and the values of the names; none where an operand is missing
+abbrev pub act : Instr → List ℤ → List ℤ → Option Act
+act (Const x) stack vars = Some (record { answer = Ok (x ∷ stack); output = [] })
+act (Load number) stack vars = Some (record { answer = loaded stack (slice_get vars number); output = [] })
+act Define [] vars = None
+act Define (x ∷ stack) vars = Some (record { answer = Ok (x ∷ stack); output = [] })
+act (Call1 f) stack vars = top_act f None stack
+act (Call2 f) [] vars = None
+act (Call2 f) (w ∷ stack) vars = top_act f (Some w) stack
+act Pop [] vars = None
+act Pop (x ∷ stack) vars = Some (record { answer = Ok stack; output = [] })
+
+-- the values of the names behind an instruction
+abbrev pub vars_behind : Instr → List ℤ → List ℤ → List ℤ
+vars_behind Define (x ∷ stack) vars = vars ++ x ∷ []
+vars_behind _ stack vars = vars
 
 -- the bytes that were written when a run ended
 abbrev pub written_by : Res (Unit {0}) → List ℕ
 written_by (Gives u s) = s.written
 written_by (Faults f s) = s.written
 written_by (Spends s) = s.written
+
+-- the value of a name is pushed, or it has none
+abbrev pub Loads : Result (List ℤ) Fault → List ℤ → Result (Unit {0}) End → Type 0
+Loads answer stack (Ok u) = answer ≡ Ok stack
+Loads answer stack (Err (end.Faulted f)) = answer ≡ Err f
+Loads answer stack (Err end.Memory) = Unit {0}
+Loads answer stack (Err _) = ⊥
 
 module _ {K : Type 0} (written : K → Option (List ℕ)) (room faults : K → ℕ) where
   -- a call answers and writes so; want of memory and a failed put leave a front of what it writes

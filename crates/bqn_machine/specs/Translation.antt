@@ -1,30 +1,29 @@
 -- The code of a tree.
-use Rattle.std.specs.Prelude.{ℤ, List, [], ◌∷◌, ◌++◌, Option, Some, None}
-use Rattle.bqn_syntax.specs.declared.tree.Function.{Function}
-use Rattle.bqn_syntax.specs.declared.tree.Step.{Step}
-use Rattle.bqn_syntax.specs.declared.tree.Expr.{Expr}
-use Rattle.bqn_syntax.specs.declared.tree.Tree.{Tree}
+use Rattle.std.specs.Prelude.{ℕ, List, [], ◌∷◌, ◌++◌, Option, Some, None}
+use Rattle.bqn_syntax.specs.Tree.{Part, Number, Name, Paren, Expr, Value, Apply1, Apply2, Stmt}
 use Rattle.bqn_machine.specs.declared.code.Instr.{Instr}
-use Rattle.bqn_machine.specs.declared.code.Instr.TheVariants.{Const, Call1, Call2, Pop}
+use Rattle.bqn_machine.specs.declared.code.Instr.TheVariants.{Const, Load, Define, Call1, Call2, Pop}
 
-abbrev pub call_code : Function → Option ℤ → List Instr
-call_code function None = Call1 function ∷ []
-call_code function (Some left) = Const left ∷ Call2 function ∷ []
+-- the right argument is carried out first, then the left one
+abbrev mutual
+  pub part_code : Part → List Instr
+  part_code (Number z) = Const z ∷ []
+  part_code (Name number) = Load number ∷ []
+  part_code (Paren e) = expr_code e
 
-abbrev pub step_code : Step → List Instr
-step_code step = call_code step.function step.left
+  pub expr_code : Expr → List Instr
+  expr_code (Value part) = part_code part
+  expr_code (Apply1 f e) = expr_code e ++ Call1 f ∷ []
+  expr_code (Apply2 f left e) = expr_code e ++ (part_code left ++ Call2 f ∷ [])
 
-abbrev pub steps_code : List Step → List Instr
-steps_code [] = []
-steps_code (step ∷ steps) = step_code step ++ steps_code steps
-
-abbrev pub expr_code : Expr → List Instr
-expr_code e = Const e.last ∷ steps_code e.steps
+abbrev pub target_code : Option ℕ → List Instr
+target_code None = []
+target_code (Some number) = Define ∷ []
 
 -- the value of a statement is dropped
-abbrev pub statements_code : List Expr → List Instr
-statements_code [] = []
-statements_code (e ∷ es) = expr_code e ++ Pop ∷ statements_code es
+abbrev pub stmt_code : Stmt → List Instr
+stmt_code st = expr_code st.value ++ (target_code st.target ++ Pop ∷ [])
 
-abbrev pub translation : Tree → List Instr
-translation tree = statements_code tree.statements
+abbrev pub translation : List Stmt → List Instr
+translation [] = []
+translation (st ∷ sts) = stmt_code st ++ translation sts

@@ -4,26 +4,24 @@ ghost use Rattle.bqn_machine.specs.Compiling.{Compiles};
 ghost use Rattle.bqn_machine.specs.Reading.{ReadsAs};
 ghost use Rattle.bqn_machine.specs.Translation.{translation};
 
-use crate::code::{Instr, code_of};
+use crate::code::Instr;
 use crate::error::CompileError;
-use crate::read::tree;
+use crate::translate::code_of;
+use bqn_syntax::Token;
 use std::alloc::Global;
 
-/// The code of a source.
+/// The code of a token list.
 ///
 /// # Errors
 ///
-/// `NotYet` exactly where the source is not of the form that is built so far, `Memory` where memory is wanting.
+/// `NotYet` exactly where the tokens are not of the form that is built so far, `Memory` where memory is wanting.
 #[tactic(auto, using(crate::proofs::Compiled::compile_laws))]
-pub fn compile(alloc: Global, source: &[u8]) -> Result<Vec<Instr>, CompileError>
-    ensures translated { ReadsAs (λ code. code.items) (option_map translation (tree_of source.now)) result }
-    ensures meaning { Compiles (tree_of source.now) result }
+pub fn compile(alloc: Global, tokens: &[Token]) -> Result<Vec<Instr>, CompileError>
+    ensures translated { ReadsAs (λ code. code.items) (option_map translation (tree_of tokens.now)) result }
+    ensures meaning { Compiles (tree_of tokens.now) result }
 {
-    match tree(alloc, source) {
-        Ok(tree) => match code_of(alloc, &tree) {
-            Ok(code) => Ok(code),
-            Err(_) => Err(CompileError::Memory),
-        },
-        Err(error) => Err(error),
-    }
+    code_of(alloc, tokens)
 }
+
+#[cfg(test)]
+mod tests;

@@ -1,16 +1,16 @@
-//! The machine: how a source of the form that is built so far becomes code, and how code runs.
+//! The machine: how a token list of the form that is built so far becomes code, and how code runs.
 #![tactic(auto)]
 
 mod call;
 mod code;
 mod compiler;
+mod emitter;
 mod end;
 mod error;
-mod extent;
 mod line;
-mod piece;
-mod read;
 mod run;
+mod signs;
+mod translate;
 
 pub use code::Instr;
 pub use compiler::compile;

@@ -1,10 +1,11 @@
-ghost use Rattle.std.specs.Prelude.{◌≡◌, IsSome, reverse};
+ghost use Rattle.std.specs.Prelude.{◌≡◌, [], ◌∷◌, ◌++◌, IfErr, IsSome, OnOk, reverse, slice_get};
 ghost use Rattle.bqn_machine.specs.Execution.{executed};
-ghost use Rattle.bqn_machine.specs.Running.{act, top_act, Acts, EndsAs};
+ghost use Rattle.bqn_machine.specs.Running.{act, loaded, top_act, vars_behind, Acts, EndsAs, Loads};
 
 use crate::call::call;
 use crate::code::Instr;
 use crate::end::End;
+use bqn_base::Fault;
 use bqn_io::Sink;
 use bqn_syntax::Function;
 use std::alloc::Global;
@@ -31,17 +32,59 @@ fn call_top<K: Sink>(
     }
 }
 
-/// Carries out one instruction.
+fn push(stack: &mut Vec<i64>, x: i64) -> Result<(), End>
+    ensures ok { OnOk result (stack.new.items ≡ stack.old.items ++ x ∷ []) }
+    ensures err { IfErr result (λ end. end ≡ End.Memory) }
+{
+    match stack.push(x) {
+        Ok(()) => Ok(()),
+        Err(_) => Err(End::Memory),
+    }
+}
+
+fn value_at(vars: &[i64], number: usize) -> Option<i64>
+    ensures { result ≡ slice_get vars.now number }
+{
+    if number < vars.len() {
+        Some(vars[number])
+    } else {
+        None
+    }
+}
+
+/// Pushes the value of a name.
 #[tactic(auto, using(crate::proofs::Steps::step_laws))]
-fn step<K: Sink>(alloc: Global, instr: Instr, stack: &mut Vec<i64>, out: &mut K) -> Result<(), End>
-    requires { IsSome (act instr (reverse stack.old.items)) }
-    ensures { Acts K.written K.room K.faults (act instr (reverse stack.old.items)) (reverse stack.new.items) out.old out.new result }
+fn load(stack: &mut Vec<i64>, vars: &[i64], number: usize) -> Result<(), End>
+    ensures { Loads (loaded (reverse stack.old.items) (slice_get vars.now number)) (reverse stack.new.items) result }
+{
+    match value_at(vars, number) {
+        Some(x) => push(stack, x),
+        None => Err(End::Faulted(Fault::Undefined)),
+    }
+}
+
+/// Carries out one instruction on the stack and on the values of the names.
+#[tactic(auto, using(crate::proofs::Steps::step_laws))]
+fn step<K: Sink>(
+    alloc: Global,
+    instr: Instr,
+    stack: &mut Vec<i64>,
+    vars: &mut Vec<i64>,
+    out: &mut K,
+) -> Result<(), End>
+    requires { IsSome (act instr (reverse stack.old.items) vars.old.items) }
+    ensures acts { Acts K.written K.room K.faults (act instr (reverse stack.old.items) vars.old.items) (reverse stack.new.items) out.old out.new result }
+    ensures vars { OnOk result (vars.new.items ≡ vars_behind instr (reverse stack.old.items) vars.old.items) }
 {
     match instr {
-        Instr::Const(x) => match stack.push(x) {
-            Ok(()) => Ok(()),
-            Err(_) => Err(End::Memory),
-        },
+        Instr::Const(x) => push(stack, x),
+        Instr::Load(number) => load(stack, vars, number),
+        Instr::Define => {
+            let Some(x) = stack.last().copied() else {
+                unreachable!()
+            };
+            push(vars, x)
+        }
         Instr::Call1(function) => call_top(alloc, function, None, stack, out),
         Instr::Call2(function) => {
             let Some(left) = stack.pop() else {
@@ -65,42 +108,11 @@ pub fn run_code<K: Sink>(alloc: Global, code: &[Instr], steps: u64, out: &mut K)
         return End::Spent;
     }
     let mut stack = Vec::new(alloc);
+    let mut vars = Vec::new(alloc);
     'instructions: for instr in code {
-        if let Err(end) = step(alloc, *instr, &mut stack, out) {
+        if let Err(end) = step(alloc, *instr, &mut stack, &mut vars, out) {
             return end;
         }
     }
     End::Done
-}
-
-#[cfg(test)]
-mod tests {
-    use super::*;
-    use crate::compile;
-    use bqn_io::MemorySink;
-    use std::test::Fail;
-
-    #[test]
-    fn runs_sources(rt: HostRuntime) -> Result<(), Fail> {
-        let alloc = rt.alloc();
-        let rows = [
-            ("•Show 2+3", 1, [].as_slice(), "Done", "5\n"),
-            ("•Show 10-2-3", 1, &[], "Done", "11\n"),
-            ("1 •Show •Show 2", 1, &[], "Faulted(Domain)", "2\n"),
-            ("•Show 2+3", 0, &[], "Spent", ""),
-            ("•Show 2+3", 1, &[1], "WriteFault", ""),
-        ];
-        for (source, steps, failing, end, written) in rows {
-            let code = compile(alloc, source.as_bytes())?;
-            let mut sink = MemorySink::new(alloc, 16, Vec::from_slice(alloc, failing)?)?;
-            let ended = run_code(alloc, code.as_slice(), steps, &mut sink);
-            assert_eq!(rt;
-                format!(in alloc; "{ended:?}")?.as_str(),
-                end,
-                "at {source}"
-            );
-            assert_eq!(rt; sink.written(), written.as_bytes(), "at {source}");
-        }
-        Ok(())
-    }
 }

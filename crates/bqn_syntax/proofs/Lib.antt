@@ -1,3 +1,4 @@
 pub mod Longest
 pub mod Cutting
 mod Samples
+mod TokenSamples

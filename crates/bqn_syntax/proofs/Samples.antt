@@ -1,7 +1,8 @@
 -- Cuts, trees and evaluations, computed.
-use Rattle.std.proofs.Common.{◌≡◌, ℕ, pos, negsuc, List, [], ◌∷◌, Option, Some, None, Ok, refl}
+use Rattle.std.proofs.Common.{◌≡◌, ℕ, ℤ, pos, pos, List, [], ◌∷◌, Option, Some, None, Ok, refl}
 use Rattle.std.specs.Str.{chars, is_utf8}
-use Rattle.std.specs.Option.{option_map}
+use Rattle.std.specs.Option.{option_map, option_and_then}
+use Rattle.std.specs.Result.{result_ok}
 use Rattle.std.specs.Prelude.{encode_utf8_all}
 use Rattle.std.specs.Fmt.{digits}
 use lib.Chars.{codes}
@@ -9,7 +10,8 @@ use lib.Utf8.{encode}
 use Rattle.bqn_base.specs.declared.fault.Fault.TheVariants.{Overflow, Domain}
 use Rattle.bqn_syntax.specs.Text.{text_of}
 use Rattle.bqn_syntax.specs.Cut.{pieces_of}
-use Rattle.bqn_syntax.specs.Form.{number_of, tree_of}
+use Rattle.bqn_syntax.specs.Form.{tree_of}
+use Rattle.bqn_syntax.specs.Tokens.{tokens_of_source}
 use Rattle.bqn_syntax.specs.Evaluation.{Res, Gives, Faults, Spends, State, evaluated}
 
 -- the pieces of an ordinary line
@@ -40,30 +42,15 @@ text_with_returns : text_of (49 ∷ 13 ∷ 13 ∷ 10 ∷ 13 ∷ []) ≡ Ok (49 �
 unfolding chars is_utf8 encode
 text_with_returns = refl
 
-least_number : number_of (codes "¯9223372036854775808") ≡ Some (negsuc 9223372036854775807)
-least_number = refl
-
-past_least_number : number_of (codes "¯9223372036854775809") ≡ None
-past_least_number = refl
-
-past_greatest_number : number_of (codes "9223372036854775808") ≡ None
-past_greatest_number = refl
-
-negative_zero : number_of (codes "¯000") ≡ Some (pos 0)
-negative_zero = refl
-
-no_number_without_digits : number_of (codes "¯") ≡ None
-no_number_without_digits = refl
-
 -- the bytes of a source, its meaning with so many steps, and the written text
 abbrev source : List ℕ → List ℕ
 source text = encode_utf8_all text
 
 abbrev seen : List ℕ → ℕ → Option (Res (Unit {0}))
-seen text steps = option_map (λ tree. evaluated tree steps) (tree_of (source text))
+seen text steps = option_and_then (λ tokens. option_map (λ tree. evaluated tree steps) (tree_of tokens)) (result_ok (tokens_of_source (source text)))
 
 abbrev state : List ℕ → ℕ → State
-state text left = record { written = encode_utf8_all text; left = left }
+state text left = record { written = encode_utf8_all text; left = left; vars = [] }
 
 nothing_written : seen (codes "") 1 ≡ Some (Gives tt (state [] 0))
 unfolding chars is_utf8 encode
@@ -107,21 +94,64 @@ not_yet_function : seen (codes "1 +") 1 ≡ None
 unfolding chars is_utf8 encode
 not_yet_function = refl
 
-not_yet_comment : seen (codes "1 # c") 1 ≡ None
+not_yet_name : seen (codes "a") 1 ≡ None
 unfolding chars is_utf8 encode
-not_yet_comment = refl
+not_yet_name = refl
 
-not_yet_other_case : seen (codes "•show 1") 1 ≡ None
+not_yet_other_role : seen (codes "•show 1") 1 ≡ None
 unfolding chars is_utf8 encode
-not_yet_other_case = refl
+not_yet_other_role = refl
 
-not_yet_longer_name : seen (codes "•Show2") 1 ≡ None
+-- spelling does not count, nor do comments and carriage returns before a line feed
+other_spelling : seen (codes "•S_HOW 1_0e1\r\n# c") 1 ≡ Some (Gives tt (state (codes "100\n") 0))
+unfolding chars is_utf8 encode digits
+other_spelling = refl
+
+-- names and parentheses
+abbrev ended : List ℕ → List ℤ → Res (Unit {0})
+ended text vars = Gives tt (record { written = encode_utf8_all text; left = 0; vars = vars })
+
+names_of_two_spellings : seen (codes "a_B←1e3 # c\n•Show ab-1_0") 1 ≡ Some (ended (codes "990\n") (pos 1000 ∷ []))
+unfolding chars is_utf8 encode digits
+names_of_two_spellings = refl
+
+names_and_parentheses : seen (codes "a←2 ⋄ b←a×(a+3) ⋄ •Show -b") 1 ≡ Some (ended (codes "¯10\n") (pos 2 ∷ pos 10 ∷ []))
+unfolding chars is_utf8 encode digits
+names_and_parentheses = refl
+
+-- the right argument first
+order_of_arguments : seen (codes "•Show(•Show 1)+(•Show 2)") 1 ≡ Some (ended (codes "2\n1\n3\n") [])
+unfolding chars is_utf8 encode digits
+order_of_arguments = refl
+
+not_yet_redefined : seen (codes "a←1⋄a←2") 1 ≡ None
 unfolding chars is_utf8 encode
-not_yet_longer_name = refl
+not_yet_redefined = refl
 
-not_yet_return : tree_of (49 ∷ 13 ∷ 10 ∷ []) ≡ None
-not_yet_return = refl
-
-not_yet_bytes : tree_of (49 ∷ 255 ∷ []) ≡ None
+not_yet_used_in_its_definition : seen (codes "a←a") 1 ≡ None
 unfolding chars is_utf8 encode
-not_yet_bytes = refl
+not_yet_used_in_its_definition = refl
+
+not_yet_adjacent : seen (codes "(1)(2)") 1 ≡ None
+unfolding chars is_utf8 encode
+not_yet_adjacent = refl
+
+not_yet_separator_inside : seen (codes "(1⋄2)") 1 ≡ None
+unfolding chars is_utf8 encode
+not_yet_separator_inside = refl
+
+not_yet_open : seen (codes "1)") 1 ≡ None
+unfolding chars is_utf8 encode
+not_yet_open = refl
+
+not_yet_empty_parentheses : seen (codes "()") 1 ≡ None
+unfolding chars is_utf8 encode
+not_yet_empty_parentheses = refl
+
+not_yet_definition_inside : seen (codes "1+(a←2)") 1 ≡ None
+unfolding chars is_utf8 encode
+not_yet_definition_inside = refl
+
+not_yet_definition_left : seen (codes "1+a←2") 1 ≡ None
+unfolding chars is_utf8 encode
+not_yet_definition_left = refl

@@ -1,110 +1,131 @@
--- The sources that are built so far: numbers, `+`, `-`, `×`, `•Show` and separators, in at most 4,096 bytes.
-use Rattle.std.specs.Prelude.{ℕ, ◌+◌, ◌-◌, ◌*◌, nat_le, nat_eq, ◌==◌, Bool, true, false, not, ◌&&◌, ◌||◌, if◌then◌else◌, ℤ, pos, neg_ℤ, List, [], ◌∷◌, length, Option, Some, None}
-use Rattle.std.specs.Result.{result_ok}
+-- The token lists that are built so far: numbers, subject names, `←`, parentheses, `+`, `-`, `×`, `•Show` and separators,
+-- at most 4,096 tokens. Tokens are compared by what they are, so their spelling does not count.
+use Rattle.std.specs.Prelude.{ℕ, ◌+◌, nat_le, nat_lt, nat_eq, ◌==◌, true, false, if◌then◌else◌, List, [], ◌∷◌, ◌++◌, length, position, codes as ascii, Option, Some, None}
 use Rattle.std.specs.Cmp.Lexicographic.{pointwise}
-use Rattle.std.specs.List.{list_all}
 use Rattle.std.specs.Option.{option_map, option_and_then}
 use lib.Chars.{codes}
-use Rattle.bqn_base.specs.Arithmetic.{fits}
+use Rattle.bqn_base.specs.declared.role.Role.TheVariants as role
+use Rattle.bqn_syntax.specs.declared.function.Function.{Function}
+use Rattle.bqn_syntax.specs.declared.function.Function.TheVariants.{Plus, Minus, Times, Show}
+use Rattle.bqn_syntax.specs.declared.sign.Sign.{Sign}
+use Rattle.bqn_syntax.specs.declared.sign.Sign.TheVariants as sign
+use Rattle.bqn_syntax.specs.declared.token.Kind.{Kind}
+use Rattle.bqn_syntax.specs.declared.token.Kind.TheVariants as kind
 use Rattle.bqn_syntax.specs.declared.token.Token.{Token}
-use Rattle.bqn_syntax.specs.declared.token.Token.TheVariants as token
-use Rattle.bqn_syntax.specs.declared.tree.Function.{Function}
-use Rattle.bqn_syntax.specs.declared.tree.Function.TheVariants.{Plus, Minus, Times, Show}
-use Rattle.bqn_syntax.specs.declared.tree.Step.{Step}
-use Rattle.bqn_syntax.specs.declared.tree.Expr.{Expr}
-use Rattle.bqn_syntax.specs.declared.tree.Tree.{Tree}
-use Rattle.bqn_syntax.specs.Text.{text_of}
-use Rattle.bqn_syntax.specs.Table.{is_digit, is_one_of, blanks}
-use Rattle.bqn_syntax.specs.Cut.{pieces_of}
+use Rattle.bqn_syntax.specs.Table.{is_one_of}
+use Rattle.bqn_syntax.specs.Tree.{Part, Number, Name, Paren, Expr, Value, Apply1, Apply2, Stmt}
 
 -- `⋄`, the comma and the newline
 abbrev pub separators : List ℕ
 separators = 10 ∷ codes "⋄,"
 
--- what digits stand for, behind digits that stand for the first number
-abbrev pub value_from : ℕ → List ℕ → ℕ
-value_from value [] = value
-value_from value (c ∷ cs) = value_from (value * 10 + (c - 48)) cs
-
--- a number of 64 bits
-abbrev pub within_64_bits : ℤ → Option ℤ
-within_64_bits z = if fits z then Some z else None
-
--- one digit or more
-abbrev pub natural : List ℕ → Option ℕ
-natural [] = None
-natural (c ∷ cs) = if list_all is_digit (c ∷ cs) then Some (value_from 0 (c ∷ cs)) else None
-
--- a number of the form: digits, perhaps a macron before them
-abbrev pub number_of : List ℕ → Option ℤ
-number_of [] = None
-number_of (c ∷ cs) =
-    if c == 175 then option_and_then (λ n. within_64_bits (neg_ℤ (pos n))) (natural cs)
-    else option_and_then (λ n. within_64_bits (pos n)) (natural (c ∷ cs))
-
--- what a character of the form is by itself: nothing for a blank, or a token
-abbrev pub single_of : ℕ → Option (Option Token)
-single_of c =
-    if is_one_of blanks c then Some None
-    else if is_one_of separators c then Some (Some token.Separator)
-    else if c == 43 then Some (Some (token.Function Plus))
-    else if c == 45 then Some (Some (token.Function Minus))
-    else if c == 215 then Some (Some (token.Function Times))
+-- the function of a code: `+`, `-` and `×` are 0, 1 and 2
+abbrev pub given_sign : ℕ → Option Sign
+given_sign code =
+    if code == 0 then Some (sign.Function Plus)
+    else if code == 1 then Some (sign.Function Minus)
+    else if code == 2 then Some (sign.Function Times)
     else None
 
--- what a piece of the form is: nothing for a blank, or a token; none for a piece that is not of the form
-abbrev pub token_of : List ℕ → Option (Option Token)
-token_of [] = None
-token_of (c ∷ cs) =
-    if is_digit c || (c == 175) then option_map (λ z. Some (token.Number z)) (number_of (c ∷ cs))
-    else if c == 8226 then (if pointwise nat_eq cs (codes "Show") then Some (Some (token.Function Show)) else None)
-    else single_of c
+abbrev pub punct_sign : ℕ → Option Sign
+punct_sign c =
+    if is_one_of separators c then Some sign.Separator
+    else if c == 8592 then Some sign.Define
+    else if c == 40 then Some sign.Open
+    else if c == 41 then Some sign.Close
+    else None
 
-abbrev pub with_token : Option (Option Token) → Option (List Token) → Option (List Token)
-with_token None tokens = None
-with_token (Some None) tokens = tokens
-with_token (Some (Some t)) tokens = option_map (λ ts. t ∷ ts) tokens
+-- a sign, and the names so far by their numbers
+pub record Numbered : Type 0 where
+  pub sign : Sign
+  pub names : List (List ℕ)
 
--- the tokens of pieces that are all of the form
-abbrev pub tokens_of : List (List ℕ) → Option (List Token)
-tokens_of [] = Some []
-tokens_of (piece ∷ pieces) = with_token (token_of piece) (tokens_of pieces)
+-- a name has the number of its first occurrence
+abbrev pub name_sign : List (List ℕ) → List ℕ → Numbered
+name_sign names name = elim (position (λ other. pointwise nat_eq other name) names) [
+  | Some number ↦ record { sign = sign.Name number; names = names }
+  | None ↦ record { sign = sign.Name (length names); names = names ++ name ∷ [] }
+]
 
-abbrev pub with_step : Function → Option ℤ → Option (List Step) → Option (List Step)
-with_step function left steps = option_map (λ more. record { function = function; left = left } ∷ more) steps
+abbrev pub plain_sign : List (List ℕ) → Option Sign → Option Numbered
+plain_sign names s = option_map (λ s. record { sign = s; names = names }) s
 
--- the applications of a row that is read leftward: a number directly left of a function is its left argument
-abbrev pub steps_of : List Token → Option (List Step)
-steps_of [] = Some []
-steps_of (token.Function f ∷ token.Number w ∷ row) = with_step f (Some w) (steps_of row)
-steps_of (token.Function f ∷ row) = with_step f None (steps_of row)
-steps_of _ = None
+-- the part that a token plays behind these names, or none
+abbrev pub sign_of : List (List ℕ) → Kind → Option Numbered
+sign_of names (kind.Number z) = plain_sign names (Some (sign.Number z))
+sign_of names (kind.Given code) = plain_sign names (given_sign code)
+sign_of names (kind.Punct c) = plain_sign names (punct_sign c)
+sign_of names (kind.System name role.Function) = plain_sign names (if pointwise nat_eq name (ascii "show") then Some (sign.Function Show) else None)
+sign_of names (kind.Word name role.Subject) = Some (name_sign names name)
+sign_of names _ = None
 
--- the value of a row, its last token first
-abbrev pub expr_of : List Token → Option Expr
-expr_of (token.Number x ∷ row) = option_map (λ steps. record { last = x; steps = steps }) (steps_of row)
-expr_of _ = None
+abbrev pub signs_of : List (List ℕ) → List Token → Option (List Sign)
+signs_of names [] = Some []
+signs_of names (t ∷ tokens) = elim (sign_of names t.kind) [ None ↦ None | Some n ↦ option_map (λ more. n.sign ∷ more) (signs_of n.names tokens) ]
 
--- a row before further statements; an empty one is none
-abbrev pub with_row : List Token → Option (List Expr) → Option (List Expr)
-with_row [] statements = statements
-with_row (t ∷ row) statements = option_and_then (λ e. option_map (λ es. e ∷ es) statements) (expr_of (t ∷ row))
+-- what is read of an expression, from its right end leftward: nothing, an expression, or also a function left of it
+pub data Reading : Type 0 where
+  Empty : Reading
+  Whole : Expr → Reading
+  Pending : Function → Expr → Reading
 
--- the statements of a row that is read so far, its last token first, and of the tokens behind it
-abbrev pub statements_of : List Token → List Token → Option (List Expr)
-statements_of row [] = with_row row (Some [])
-statements_of row (token.Separator ∷ tokens) = with_row row (statements_of [] tokens)
-statements_of row (token.Number x ∷ tokens) = statements_of (token.Number x ∷ row) tokens
-statements_of row (token.Function f ∷ tokens) = statements_of (token.Function f ∷ row) tokens
+-- a part left of what is read: the left argument of a function that stands there
+abbrev pub with_part : Part → Reading → Option Reading
+with_part part Empty = Some (Whole (Value part))
+with_part part (Whole e) = None
+with_part part (Pending f e) = Some (Whole (Apply2 f part e))
 
--- the tree of a text of the form
-abbrev pub tree_of_text : List ℕ → Option Tree
-tree_of_text text = option_and_then (λ pieces. option_and_then (λ tokens. option_map (λ es. record { statements = es }) (statements_of [] tokens)) (tokens_of pieces)) (pieces_of text)
+-- a function left of what is read; one that stands there has no left argument
+abbrev pub with_function : Function → Reading → Option Reading
+with_function f Empty = None
+with_function f (Whole e) = Some (Pending f e)
+with_function f (Pending g e) = Some (Pending f (Apply1 g e))
 
--- at most 4,096 bytes and no carriage return
-abbrev pub is_short : List ℕ → Bool
-is_short bytes = nat_le (length bytes) 4096 && not (is_one_of bytes 13)
+-- the expression that is read
+abbrev pub finished : Reading → Option Expr
+finished Empty = None
+finished (Whole e) = Some e
+finished (Pending f e) = Some (Apply1 f e)
 
--- the tree of a source of the form, or none
-abbrev pub tree_of : List ℕ → Option Tree
-tree_of bytes = elim (is_short bytes) [ false ↦ None | true ↦ option_and_then tree_of_text (result_ok (text_of bytes)) ]
+-- a name that is defined by an earlier statement
+abbrev pub known : (defined : ℕ) → ℕ → Option Part
+known defined number = if nat_lt number defined then Some (Name number) else None
+
+abbrev pub whole_stmt : Option ℕ → Option Expr → Option Stmt
+whole_stmt target e = option_map (λ value. record { target = target; value = value }) e
+
+-- a name that is the next to be defined
+abbrev pub fresh : (defined : ℕ) → ℕ → Option Expr → Option Stmt
+fresh defined number e = if nat_eq number defined then whole_stmt (Some number) e else None
+
+-- the statement of a row, its last sign first, behind what is read of it and of the expressions around it;
+-- names are defined by earlier statements, and at most 128 parentheses are open
+abbrev pub stmt_of : (defined : ℕ) → Reading → List Reading → List Sign → Option Stmt
+stmt_of defined here outer (sign.Number z ∷ row) = option_and_then (λ r. stmt_of defined r outer row) (with_part (Number z) here)
+stmt_of defined here outer (sign.Name n ∷ row) = option_and_then (λ r. stmt_of defined r outer row) (option_and_then (λ p. with_part p here) (known defined n))
+stmt_of defined here outer (sign.Function f ∷ row) = option_and_then (λ r. stmt_of defined r outer row) (with_function f here)
+stmt_of defined here outer (sign.Close ∷ row) = if nat_lt (length outer) 128 then stmt_of defined Empty (here ∷ outer) row else None
+stmt_of defined here (around ∷ outer) (sign.Open ∷ row) = option_and_then (λ r. stmt_of defined r outer row) (option_and_then (λ e. with_part (Paren e) around) (finished here))
+stmt_of defined here [] (sign.Define ∷ sign.Name n ∷ []) = fresh defined n (finished here)
+stmt_of defined here [] [] = whole_stmt None (finished here)
+stmt_of defined here outer _ = None
+
+-- how many names are defined behind a statement
+abbrev pub defined_by : (defined : ℕ) → Option ℕ → ℕ
+defined_by defined None = defined
+defined_by defined (Some number) = defined + 1
+
+-- the statement of a row, and those behind it, by how many names are then defined; an empty row is none
+abbrev pub after_row : (defined : ℕ) → List Sign → (ℕ → Option (List Stmt)) → Option (List Stmt)
+after_row defined [] more = more defined
+after_row defined (s ∷ row) more = option_and_then (λ st. option_map (λ sts. st ∷ sts) (more (defined_by defined st.target))) (stmt_of defined Empty [] (s ∷ row))
+
+-- the statements of a row that is read so far, its last sign first, and of the signs behind it
+abbrev pub statements_of : (defined : ℕ) → List Sign → List Sign → Option (List Stmt)
+statements_of defined row [] = after_row defined row (λ d. Some [])
+statements_of defined row (sign.Separator ∷ signs) = after_row defined row (λ d. statements_of d [] signs)
+statements_of defined row (s ∷ signs) = statements_of defined (s ∷ row) signs
+
+-- the statements of a token list of the form, or none
+abbrev pub tree_of : List Token → Option (List Stmt)
+tree_of tokens = elim (nat_le (length tokens) 4096) [ false ↦ None | true ↦ option_and_then (statements_of 0 []) (signs_of [] tokens) ]

@@ -1,6 +1,7 @@
 -- The table of tokens, as the states that a piece goes through character by character: BQN's page on tokens.
-use Rattle.std.specs.Prelude.{ℕ, nat_le, ◌==◌, Bool, true, false, ◌&&◌, ◌||◌, if◌then◌else◌, List, [], ◌∷◌, ◌++◌, Option, Some, None}
+use Rattle.std.specs.Prelude.{ℕ, ◌==◌, Bool, true, false, ◌||◌, if◌then◌else◌, List, [], ◌∷◌, ◌++◌, Option, Some, None}
 use Rattle.std.specs.List.{list_any}
+pub use Rattle.bqn_base.specs.Characters.{is_digit, is_lower, is_letter}
 use lib.Chars.{codes}
 use Rattle.bqn_syntax.specs.declared.progress.Progress.{Progress}
 use Rattle.bqn_syntax.specs.declared.progress.Progress.TheVariants.{Start, Done, Comment, Word, Digit, Dot, Bullet, Quote, Quoted, Inside, Closed}
@@ -30,12 +31,6 @@ singles = blanks ++ punctuation ++ codes "@" ++ special_names ++ primitive_funct
 
 abbrev pub is_one_of : List ℕ → ℕ → Bool
 is_one_of cs c = list_any (λ d. d == c) cs
-
-abbrev pub is_digit : ℕ → Bool
-is_digit c = nat_le 48 c && nat_le c 57
-
-abbrev pub is_letter : ℕ → Bool
-is_letter c = (nat_le 97 c && nat_le c 122) || (nat_le 65 c && nat_le c 90)
 
 -- a letter, the underscore or `𝕣`
 abbrev pub is_name_start : ℕ → Bool

@@ -1,12 +1,14 @@
-//! The types of a source, its tokens and its trees. What they mean stands in `specs/`.
+//! The types of a source and of its tokens. What they mean stands in `specs/`.
 #![tactic(auto)]
 
+mod function;
 mod laws;
 mod progress;
+mod sign;
 mod token;
-mod tree;
 
+pub use function::Function;
 pub use laws::cut_is_unique;
 pub use progress::Progress;
-pub use token::Token;
-pub use tree::{Expr, Function, Step, Tree};
+pub use sign::Sign;
+pub use token::{Kind, Special, Token};

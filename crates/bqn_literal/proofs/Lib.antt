@@ -1,0 +1,10 @@
+pub mod Digits
+pub mod Fronts
+pub mod Forms
+pub mod Past
+pub mod Quotes
+pub mod Reading
+pub mod Scaling
+pub mod Sizes
+pub mod Small
+pub mod Words

@@ -1,0 +1,4 @@
+pub mod Results
+pub mod Shown
+pub mod Spellings
+pub mod Values

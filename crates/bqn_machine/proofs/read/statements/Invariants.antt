@@ -1,8 +1,0 @@
-use Rattle.std.proofs.Common.{◌≡◌, [], drop}
-use Rattle.std.specs.Prelude.{reverse}
-use Rattle.bqn_syntax.specs.Form.{statements_of}
-use Rattle.bqn_machine.specs.Reading.{behind}
-use Rattle.bqn_machine.proofs.read.statements.Given as goal
-
-abbrev pub invariant-tokens : goal.invariant-tokens
-invariant-tokens l = behind l.statements.items (statements_of (reverse l.row.items) (drop l.token-index l.tokens)) ≡ statements_of [] l.tokens

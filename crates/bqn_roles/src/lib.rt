@@ -1,0 +1,6 @@
+//! The roles of names.
+#![tactic(auto)]
+
+mod roles;
+
+pub use roles::role;

@@ -1,0 +1,75 @@
+-- How words spell names.
+use Rattle.std.proofs.Common.{◌≡◌, ◌≤◌, ◌<◌, ◌+◌, ℕ, suc, List, [], ◌∷◌, Bool, true, false, length, drop, get_or, drop-cons, refl, sym, ap, ◌∙◌, arith, add-one}
+use Rattle.std.specs.Prelude.{cond, not, ◌==◌, ◌&&◌, if◌then◌else◌, map, filter}
+use Rattle.std.specs.List.{list_all}
+use Rattle.std.proofs.Math.ListN.{drop_of_length-le}
+use Rattle.std.proofs.lemmas.Bool.{eqb-true}
+use Rattle.std.proofs.lemmas.Bool.Decides.{nat_tests}
+use Rattle.bqn_base.specs.Names.{is_name_character as is_plain}
+use Rattle.bqn_base.specs.Characters.{is_upper, is_letter}
+use Rattle.bqn_syntax.specs.Words.{begins_with_letter, is_name_character, lower_case, name_of}
+
+abbrev letter_if : Bool → ℕ → List ℕ → Bool
+letter_if under c cs = elim under [ true ↦ begins_with_letter cs | false ↦ is_letter c ]
+
+pub begins-under : (word : List ℕ) (i c : ℕ) → i < length word → c ≡ get_or word i c → c ≡ 95 → begins_with_letter (drop i word) ≡ begins_with_letter (drop (i + 1) word)
+begins-under word i c lt at is =
+    ap (λ (w : List ℕ). begins_with_letter w) (drop-cons word i c lt)
+    ∙ ap (λ (x : ℕ). begins_with_letter (x ∷ drop (suc i) word)) (sym at ∙ is)
+    ∙ ap (λ (k : ℕ). begins_with_letter (drop k word)) (sym (add-one i))
+
+not_under : (c : ℕ) (b : Bool) → (c == 95) ≡ b → (c ≡ 95 → ⊥) → (c == 95) ≡ false
+not_under c true e n = absurd (n (eqb-true c 95 e))
+not_under c false e n = e
+
+pub begins-other : (word : List ℕ) (i c : ℕ) → i < length word → c ≡ get_or word i c → (c ≡ 95 → ⊥) → begins_with_letter (drop i word) ≡ is_letter c
+begins-other word i c lt at n =
+    ap (λ (w : List ℕ). begins_with_letter w) (drop-cons word i c lt)
+    ∙ ap (λ (x : ℕ). begins_with_letter (x ∷ drop (suc i) word)) (sym at)
+    ∙ ap (λ (b : Bool). letter_if b c (drop (suc i) word)) (not_under c (c == 95) refl n)
+
+pub begins-end : (word : List ℕ) (i : ℕ) → length word ≤ i → begins_with_letter (drop i word) ≡ false
+begins-end word i le = ap (λ (w : List ℕ). begins_with_letter w) (drop_of_length-le word le)
+
+pub ruleset begin_laws = (begins-under, begins-other, begins-end)
+
+-- a plain character is no underscore and no capital
+plain-no_under : (c : ℕ) → is_plain c ≡ true → (c == 95) ≡ false
+plain-no_under c is = grind (arith, nat_tests)
+
+plain-no_capital : (c : ℕ) → is_plain c ≡ true → is_upper c ≡ false
+plain-no_capital c is = grind (arith, nat_tests)
+
+both-left : (a b : Bool) → (a && b) ≡ true → a ≡ true
+both-left true b e = refl
+both-left false b e = e
+
+both-right : (a b : Bool) → (a && b) ≡ true → b ≡ true
+both-right true b e = e
+both-right false b e = cc
+
+pub name_of-plain : (word : List ℕ) → list_all is_plain word ≡ true → name_of word ≡ word
+name_of-plain [] is = refl
+name_of-plain (c ∷ cs) is =
+    let plain = both-left (is_plain c) (list_all is_plain cs) is in
+    ap (λ (b : Bool). map lower_case (cond (not b) (c ∷ filter (λ d. not (d == 95)) cs) (filter (λ d. not (d == 95)) cs))) (plain-no_under c plain)
+    ∙ ap (λ (b : Bool). (if b then c + 32 else c) ∷ name_of cs) (plain-no_capital c plain)
+    ∙ ap (λ (ds : List ℕ). c ∷ ds) (name_of-plain cs (both-right (is_plain c) (list_all is_plain cs) is))
+
+lower_case-plain : (c : ℕ) → is_name_character c ≡ true → (c == 95) ≡ false → is_plain (lower_case c) ≡ true
+lower_case-plain c is other = at (is_upper c) refl
+  where
+    at : (upper : Bool) → is_upper c ≡ upper → is_plain (if upper then c + 32 else c) ≡ true
+    at true e = grind (arith, nat_tests)
+    at false e = grind (arith, nat_tests)
+
+pub plain-name_of : (word : List ℕ) → list_all is_name_character word ≡ true → list_all is_plain (name_of word) ≡ true
+plain-name_of [] is = refl
+plain-name_of (c ∷ cs) is = at (c == 95) refl (plain-name_of cs (both-right (is_name_character c) (list_all is_name_character cs) is))
+  where
+    at : (under : Bool) → (c == 95) ≡ under → list_all is_plain (name_of cs) ≡ true
+        → list_all is_plain (map lower_case (cond (not under) (c ∷ filter (λ d. not (d == 95)) cs) (filter (λ d. not (d == 95)) cs))) ≡ true
+    at true e rest = rest
+    at false e rest = ap (λ (b : Bool). b && list_all is_plain (name_of cs)) (lower_case-plain c (both-left (is_name_character c) (list_all is_name_character cs) is) e) ∙ rest
+
+pub ruleset name_laws = (name_of-plain, plain-name_of)

@@ -1,0 +1,160 @@
+-- The tokens of a text, piece by piece.
+use Rattle.std.proofs.Common.{◌≡◌, ◌≤◌, ◌+◌, ◌-◌, ℕ, zero, suc, List, [], ◌∷◌, ◌++◌, Bool, true, false, Option, Some, None, Result, Ok, Err, length, take, drop, slice_get, refl, sym, ap, ◌∙◌, arith, append_assoc}
+use Rattle.std.specs.Prelude.{◌==◌, if◌then◌else◌}
+use Rattle.std.proofs.lemmas.List.{append-nil}
+use Rattle.bqn_base.specs.declared.place.Place.{Place}
+use Rattle.bqn_base.specs.declared.refusal.Refusal.{Refusal}
+use Rattle.bqn_syntax.specs.declared.progress.Progress.TheVariants.{Start}
+use Rattle.bqn_syntax.specs.declared.token.Kind.{Kind}
+use Rattle.bqn_syntax.specs.declared.token.Token.{Token}
+use Rattle.bqn_syntax.specs.Table.{is_piece}
+use Rattle.bqn_syntax.specs.Cut.{longest}
+use Rattle.bqn_syntax.specs.Text.{text_of}
+use Rattle.bqn_syntax.specs.Tokens.{Trouble, refused_at, no_piece, kind_of, behind, with_kind, tokens_behind, tokens_of_text, tokens_of_source}
+use Rattle.bqn_syntax.proofs.Longest.{longest-first}
+use Rattle.bqn_token.specs.declared.error.TokenError.{TokenError}
+use Rattle.bqn_token.specs.declared.error.TokenError.TheVariants.{Refused, Memory}
+use Rattle.bqn_token.specs.Tokenizing.{Gives, Tokenizes, placed}
+
+-- tokens in front of those that follow, or the refusal of what follows
+abbrev pub onto : List Token → Result (List Token) Refusal → Result (List Token) Refusal
+onto front (Ok tokens) = Ok (front ++ tokens)
+onto front (Err r) = Err r
+
+pub onto-nil : (r : Result (List Token) Refusal) → onto [] r ≡ r
+onto-nil (Ok tokens) = refl
+onto-nil (Err r) = refl
+
+-- how far the longest piece reaches, and that it is one
+pub longest-some : (text : List ℕ) (count : ℕ) → longest Start text ≡ Some count → 1 ≤ count
+longest-some text count e = (longest-first text count e).some
+
+pub longest-inside : (text : List ℕ) (count : ℕ) → longest Start text ≡ Some count → count ≤ length text
+longest-inside text count e = (longest-first text count e).inside
+
+pub longest-piece : (text : List ℕ) (count : ℕ) → longest Start text ≡ Some count → is_piece (take count text) ≡ true
+longest-piece text count e = (longest-first text count e).piece
+
+tokens_behind-drop : (count : ℕ) (place : Place) (text : List ℕ) → tokens_behind count place text ≡ tokens_behind 0 place (drop count text)
+tokens_behind-drop zero place [] = refl
+tokens_behind-drop zero place (c ∷ cs) = refl
+tokens_behind-drop (suc count) place [] = refl
+tokens_behind-drop (suc count) place (c ∷ cs) = tokens_behind-drop count place cs
+
+abbrev tokens_with : Option ℕ → Place → ℕ → List ℕ → Result (List Token) Refusal
+tokens_with None place c cs = Err (refused_at (no_piece c) place)
+tokens_with (Some count) place c cs = with_kind (kind_of (take count (c ∷ cs))) place (tokens_behind (count - 1) (behind (take count (c ∷ cs)) place) cs)
+
+tokens-cons : (place : Place) (c : ℕ) (cs : List ℕ) → tokens_behind 0 place (c ∷ cs) ≡ tokens_with (longest Start (c ∷ cs)) place c cs
+tokens-cons place c cs = at (longest Start (c ∷ cs))
+  where
+    at : (count : Option ℕ) → (elim count as (λ _. Result (List Token) Refusal) [
+      | None ↦ Err (refused_at (no_piece c) place)
+      | Some n ↦ with_kind (kind_of (take n (c ∷ cs))) place (tokens_behind (n - 1) (behind (take n (c ∷ cs)) place) cs)
+    ]) ≡ tokens_with count place c cs
+    at None = refl
+    at (Some n) = refl
+
+rest-behind : (count : ℕ) (place : Place) (c : ℕ) (cs : List ℕ) → 1 ≤ count → tokens_behind (count - 1) place cs ≡ tokens_behind 0 place (drop count (c ∷ cs))
+rest-behind zero place c cs some = absurd (omega arith)
+rest-behind (suc count) place c cs some =
+    let less : suc count - 1 ≡ count = omega arith in
+    ap (λ (n : ℕ). tokens_behind n place cs) less ∙ tokens_behind-drop count place cs
+
+tokens-piece : (place : Place) (text : List ℕ) (count : ℕ) → longest Start text ≡ Some count
+    → tokens_behind 0 place text ≡ with_kind (kind_of (take count text)) place (tokens_behind 0 (behind (take count text) place) (drop count text))
+tokens-piece place [] count e = cc
+tokens-piece place (c ∷ cs) count e =
+    tokens-cons place c cs
+    ∙ ap (λ (n : Option ℕ). tokens_with n place c cs) e
+    ∙ ap (λ (r : Result (List Token) Refusal). with_kind (kind_of (take count (c ∷ cs))) place r) (rest-behind count (behind (take count (c ∷ cs)) place) c cs (longest-some (c ∷ cs) count e))
+
+placed-nothing : (place : Place) (k : Result (Option Kind) Trouble) (r : Result (List Token) Refusal) → placed place k ≡ Ok None → with_kind k place r ≡ r
+placed-nothing place (Ok None) r e = refl
+placed-nothing place (Ok (Some k)) r e = cc
+placed-nothing place (Err trouble) r e = cc
+
+onto-cons : (front : List Token) (token : Token) (k : Kind) (place : Place) (r : Result (List Token) Refusal) → token ≡ record { kind = k; place = place } → onto front (with_kind (Ok (Some k)) place r) ≡ onto (front ++ token ∷ []) r
+onto-cons front token k place (Ok tokens) is =
+    ap (λ (t : Token). Ok (front ++ t ∷ tokens)) (sym is) ∙ ap (λ (ts : List Token). Ok ts) (sym (append_assoc front (token ∷ []) tokens))
+onto-cons front token k place (Err r) is = refl
+
+placed-token : (front : List Token) (place : Place) (kind : Result (Option Kind) Trouble) (k : Kind) (r : Result (List Token) Refusal) → placed place kind ≡ Ok (Some k) → onto front (with_kind kind place r) ≡ onto (front ++ record { kind = k; place = place } ∷ []) r
+placed-token front place (Ok None) k r e = cc
+placed-token front place (Ok (Some j)) k r e =
+    let same : j ≡ k = cc in
+    ap (λ (i : Kind). onto front (with_kind (Ok (Some i)) place r)) same ∙ onto-cons front (record { kind = k; place = place }) k place r refl
+placed-token front place (Err trouble) k r e = cc
+
+placed-err : (place : Place) (kind : Result (Option Kind) Trouble) (refusal : Refusal) (r : Result (List Token) Refusal) → placed place kind ≡ Err refusal → with_kind kind place r ≡ Err refusal
+placed-err place (Ok kind) refusal r e = cc
+placed-err place (Err trouble) refusal r e = let same : refused_at trouble place ≡ refusal = cc in ap (λ (s : Refusal). Err s) same
+
+pub tokens-nothing : (front : List Token) (place : Place) (text : List ℕ) (count : ℕ) → longest Start text ≡ Some count → placed place (kind_of (take count text)) ≡ Ok None
+    → onto front (tokens_behind 0 place text) ≡ onto front (tokens_behind 0 (behind (take count text) place) (drop count text))
+tokens-nothing front place text count e k =
+    ap (λ (r : Result (List Token) Refusal). onto front r)
+    (tokens-piece place text count e ∙ placed-nothing place (kind_of (take count text)) (tokens_behind 0 (behind (take count text) place) (drop count text)) k)
+
+pub tokens-token : (front : List Token) (place : Place) (text : List ℕ) (count : ℕ) (k : Kind) → longest Start text ≡ Some count → placed place (kind_of (take count text)) ≡ Ok (Some k)
+    → onto front (tokens_behind 0 place text) ≡ onto (front ++ record { kind = k; place = place } ∷ []) (tokens_behind 0 (behind (take count text) place) (drop count text))
+tokens-token front place text count k e is =
+    ap (λ (r : Result (List Token) Refusal). onto front r) (tokens-piece place text count e)
+    ∙ placed-token front place (kind_of (take count text)) k (tokens_behind 0 (behind (take count text) place) (drop count text)) is
+
+pub tokens-refused : (front : List Token) (place : Place) (text : List ℕ) (count : ℕ) (refusal : Refusal) → longest Start text ≡ Some count → placed place (kind_of (take count text)) ≡ Err refusal
+    → onto front (tokens_behind 0 place text) ≡ Err refusal
+tokens-refused front place text count refusal e is =
+    ap (λ (r : Result (List Token) Refusal). onto front r)
+    (tokens-piece place text count e ∙ placed-err place (kind_of (take count text)) refusal (tokens_behind 0 (behind (take count text) place) (drop count text)) is)
+
+pub tokens-stuck : (front : List Token) (place : Place) (text : List ℕ) (c : ℕ) → slice_get text 0 ≡ Some c → longest Start text ≡ None
+    → onto front (tokens_behind 0 place text) ≡ Err (refused_at (no_piece c) place)
+tokens-stuck front place [] c at e = cc
+tokens-stuck front place (d ∷ ds) c at e =
+    let same : d ≡ c = cc in
+    ap (λ (r : Result (List Token) Refusal). onto front r) (tokens-cons place d ds ∙ ap (λ (n : Option ℕ). tokens_with n place d ds) e)
+    ∙ ap (λ (x : ℕ). Err (refused_at (no_piece x) place)) same
+
+pub tokens-end : (front : List Token) (place : Place) (text : List ℕ) → slice_get text 0 ≡ None → onto front (tokens_behind 0 place text) ≡ Ok front
+tokens-end front place [] e = ap (λ (ts : List Token). Ok ts) (append-nil front)
+tokens-end front place (c ∷ cs) e = cc
+
+pub some_left : (text : List ℕ) (c : ℕ) → slice_get text 0 ≡ Some c → 1 ≤ length text
+some_left [] c e = cc
+some_left (c ∷ cs) d e = omega arith
+
+-- an error at a piece is the error of the whole
+pub error-at : (whole : Result (List Token) Refusal) (front : List Token) (place : Place) (text : List ℕ) (count : ℕ) (error : TokenError) → onto front (tokens_behind 0 place text) ≡ whole → longest Start text ≡ Some count
+    → Gives (placed place (kind_of (take count text))) (Err error) → Tokenizes whole (Err error)
+error-at whole front place text count (Refused r) same e is = sym same ∙ tokens-refused front place text count r e is
+error-at whole front place text count Memory same e is = tt
+
+-- a place grows by at most one line and one column with each character
+pub line-behind : (piece : List ℕ) (place : Place) → (behind piece place).line ≤ place.line + length piece
+line-behind [] place = omega arith
+line-behind (c ∷ cs) place = at (c == 10) (λ p. line-behind cs p)
+  where
+    at : (feed : Bool) → ((p : Place) → (behind cs p).line ≤ p.line + length cs)
+        → (behind cs (if feed then record { line = place.line + 1; column = 1 } else record { line = place.line; column = place.column + 1 })).line ≤ place.line + length (c ∷ cs)
+    at true rest = let le = rest (record { line = place.line + 1; column = 1 }) in omega arith
+    at false rest = let le = rest (record { line = place.line; column = place.column + 1 }) in omega arith
+
+pub column-behind : (piece : List ℕ) (place : Place) → (behind piece place).column ≤ place.column + length piece
+column-behind [] place = omega arith
+column-behind (c ∷ cs) place = at (c == 10) (λ p. column-behind cs p)
+  where
+    at : (feed : Bool) → ((p : Place) → (behind cs p).column ≤ p.column + length cs)
+        → (behind cs (if feed then record { line = place.line + 1; column = 1 } else record { line = place.line; column = place.column + 1 })).column ≤ place.column + length (c ∷ cs)
+    at true rest = let le = rest (record { line = place.line + 1; column = 1 }) in omega arith
+    at false rest = let le = rest (record { line = place.line; column = place.column + 1 }) in omega arith
+
+pub tokens-ok : (bytes text : List ℕ) → text_of bytes ≡ Ok text → tokens_of_text text ≡ tokens_of_source bytes
+tokens-ok bytes text e = sym (ap (λ (r : Result (List ℕ) Refusal). elim r as (λ _. Result (List Token) Refusal) [ Ok t ↦ tokens_of_text t | Err s ↦ Err s ]) e)
+
+pub tokens-err : (bytes : List ℕ) (r : Refusal) → text_of bytes ≡ Err r → tokens_of_source bytes ≡ Err r
+tokens-err bytes r e = ap (λ (r : Result (List ℕ) Refusal). elim r as (λ _. Result (List Token) Refusal) [ Ok t ↦ tokens_of_text t | Err s ↦ Err s ]) e
+
+pub ruleset cut_laws = (onto-nil, longest-some, longest-inside, longest-piece, tokens-nothing, tokens-token, tokens-stuck, tokens-end, some_left, line-behind, column-behind)
+
+pub ruleset source_laws = (tokens-ok, tokens-err)

@@ -1,0 +1,143 @@
+ghost use Rattle.std.specs.Prelude.{◌≡◌, IfOk, IsTrue};
+ghost use Rattle.bqn_base.specs.Literal.{literal, unquoted};
+ghost use Rattle.bqn_syntax.specs.Table.{blanks, is_one_of, is_piece, is_piece_from};
+ghost use Rattle.bqn_syntax.specs.Tokens.{all_but_last, kind_of, name_kind, no_piece, number_kind, quoted, refused_at, single_kind};
+ghost use Rattle.bqn_syntax.specs.declared.progress.Progress.TheVariants.{Inside};
+ghost use Rattle.bqn_syntax.specs.declared.token.Kind.TheVariants as kind;
+ghost use Rattle.bqn_token.specs.Tokenizing.{Gives, placed};
+
+use crate::error::TokenError;
+use crate::extent::{may_stand_in_word, may_start_name};
+use crate::single::primitive_code;
+use crate::words::{kind_of_system_word, kind_of_word, special};
+use bqn_base::{Memory, Place, Refusal};
+use bqn_literal::{NumberError, number, string};
+use bqn_roles::role;
+use bqn_syntax::Kind;
+use std::alloc::Global;
+
+/// Why no piece starts with this character at this place.
+pub(crate) fn missing_piece(c: char, place: Place) -> Refusal
+    ensures { result ≡ refused_at (no_piece c) place }
+{
+    match c {
+        '\'' | '"' => Refusal::OpenQuote(place),
+        '•' => Refusal::BadName(place),
+        _ => Refusal::BadChar(place),
+    }
+}
+
+fn is_blank(c: char) -> bool
+    ensures { result ≡ is_one_of blanks c }
+{
+    c == ' ' || c == '\t'
+}
+
+/// The character between single quotes, which stands behind the first of them.
+fn quoted_character(behind: &[char], place: Place) -> Result<Option<Kind>, TokenError>
+    ensures { Gives (placed place (quoted behind.now)) result }
+{
+    match behind.split_first() {
+        Some((c, _)) => Ok(Some(Kind::Char(*c))),
+        None => Err(TokenError::Refused(Refusal::OpenQuote(place))),
+    }
+}
+
+#[tactic(auto, using(crate::proofs::Quotes::last_laws))]
+fn without_last(text: &[char]) -> &[char]
+    ensures { result.now ≡ all_but_last text.now }
+{
+    match text.split_last() {
+        Some((_, front)) => front,
+        None => text,
+    }
+}
+
+/// The text between double quotes, which stands behind the first of them.
+#[tactic(auto, using(crate::proofs::Quotes::doubled_laws))]
+fn quoted_text(alloc: Global, behind: &[char]) -> Result<Kind, Memory>
+    requires { IsTrue (is_piece_from Inside behind.now) }
+    ensures { IfOk result (λ given. given ≡ kind.Text (unquoted (all_but_last behind.now))) }
+{
+    let text = string(alloc, without_last(behind))?;
+    Ok(Kind::Text(text))
+}
+
+fn named(kind: Option<Kind>, place: Place) -> Result<Option<Kind>, TokenError>
+    ensures { Gives (placed place (name_kind kind)) result }
+{
+    match kind {
+        Some(kind) => Ok(Some(kind)),
+        None => Err(TokenError::Refused(Refusal::BadName(place))),
+    }
+}
+
+/// The number that a word denotes.
+#[tactic(auto, using(crate::proofs::Meanings::number_laws))]
+fn numeric(word: &[char], place: Place) -> Result<Option<Kind>, TokenError>
+    ensures { Gives (placed place (number_kind (literal word.now))) result }
+{
+    match number(word) {
+        Ok(number) => Ok(Some(Kind::Number(number))),
+        Err(NumberError::Bad) => Err(TokenError::Refused(Refusal::BadNumber(place))),
+        Err(NumberError::Range) => Err(TokenError::Refused(Refusal::NumberRange(place))),
+    }
+}
+
+/// What a character that is a piece by itself stands for.
+#[inline(always)]
+fn single(c: char) -> Kind
+    ensures { result ≡ single_kind c }
+{
+    if c == '@' {
+        return Kind::Char('\0');
+    }
+    if let Some(name) = special(c) {
+        return Kind::Special(name, role(&[c]));
+    }
+    match primitive_code(c) {
+        Some(code) => Kind::Given(code),
+        None => Kind::Punct(c),
+    }
+}
+
+/// What a piece at a place stands for: nothing for a blank or a comment, or a token.
+///
+/// # Errors
+///
+/// The refusal of a bad word, and want of memory.
+pub(crate) fn kind_at(
+    alloc: Global,
+    piece: &[char],
+    place: Place,
+) -> Result<Option<Kind>, TokenError>
+    requires { IsTrue (is_piece piece.now) }
+    ensures { Gives (placed place (kind_of piece.now)) result }
+{
+    let Some((first, behind)) = piece.split_first() else {
+        return Ok(None);
+    };
+    let first = *first;
+    if is_blank(first) || first == '#' {
+        return Ok(None);
+    }
+    if first == '\'' {
+        return quoted_character(behind, place);
+    }
+    if first == '"' {
+        let text = quoted_text(alloc, behind)?;
+        return Ok(Some(text));
+    }
+    if first == '•' {
+        let kind = kind_of_system_word(alloc, behind)?;
+        return named(kind, place);
+    }
+    if may_start_name(first) {
+        let kind = kind_of_word(alloc, piece)?;
+        return named(kind, place);
+    }
+    if may_stand_in_word(first) {
+        return numeric(piece, place);
+    }
+    Ok(Some(single(first)))
+}

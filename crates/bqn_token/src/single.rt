@@ -1,0 +1,165 @@
+ghost use Rattle.std.specs.Prelude.{◌≡◌, position, ◌==◌};
+ghost use Rattle.bqn_syntax.specs.Table.{is_one_of, singles};
+ghost use Rattle.bqn_token.specs.Singles.{is_mark, place_between, primitives};
+
+/// The code of a primitive of ASCII, if the character is one.
+fn ascii_code(c: char) -> Option<u8>
+    ensures { result ≡ place_between 0x0 0x80 0 primitives c }
+{
+    match c {
+        '+' => Some(0),
+        '-' => Some(1),
+        '|' => Some(8),
+        '<' => Some(12),
+        '>' => Some(13),
+        '=' => Some(15),
+        '/' => Some(33),
+        '!' => Some(43),
+        '`' => Some(52),
+        _ => None,
+    }
+}
+
+/// The code of a primitive behind ASCII and before the mathematical operators of Unicode, if the character is one.
+fn early_code(c: char) -> Option<u8>
+    ensures { result ≡ place_between 0x80 0x2200 0 primitives c }
+{
+    match c {
+        '×' => Some(2),
+        '÷' => Some(3),
+        '¬' => Some(9),
+        '↑' => Some(26),
+        '↓' => Some(27),
+        '↕' => Some(28),
+        '«' => Some(29),
+        '»' => Some(30),
+        '˙' => Some(44),
+        '˜' => Some(45),
+        '˘' => Some(46),
+        '¨' => Some(47),
+        '⁼' => Some(49),
+        '´' => Some(50),
+        '˝' => Some(51),
+        _ => None,
+    }
+}
+
+/// The code of a primitive among the mathematical operators of Unicode, if the character is one.
+fn operator_code(c: char) -> Option<u8>
+    ensures { result ≡ place_between 0x2200 0x2300 0 primitives c }
+{
+    match c {
+        '⋆' => Some(4),
+        '√' => Some(5),
+        '∧' => Some(10),
+        '∨' => Some(11),
+        '≠' => Some(14),
+        '≤' => Some(16),
+        '≥' => Some(17),
+        '≡' => Some(18),
+        '≢' => Some(19),
+        '⊣' => Some(20),
+        '⊢' => Some(21),
+        '∾' => Some(23),
+        '≍' => Some(24),
+        '⋈' => Some(25),
+        '⊏' => Some(36),
+        '⊑' => Some(37),
+        '⊐' => Some(38),
+        '⊒' => Some(39),
+        '∊' => Some(40),
+        '⊔' => Some(42),
+        '∘' => Some(53),
+        '⊸' => Some(55),
+        '⊘' => Some(58),
+        _ => None,
+    }
+}
+
+/// The code of a primitive behind the mathematical operators of Unicode, if the character is one.
+fn late_code(c: char) -> Option<u8>
+    ensures { result ≡ place_between 0x2300 0x110000 0 primitives c }
+{
+    match c {
+        '⌊' => Some(6),
+        '⌈' => Some(7),
+        '⥊' => Some(22),
+        '⌽' => Some(31),
+        '⍉' => Some(32),
+        '⍋' => Some(34),
+        '⍒' => Some(35),
+        '⍷' => Some(41),
+        '⌜' => Some(48),
+        '○' => Some(54),
+        '⟜' => Some(56),
+        '⌾' => Some(57),
+        '◶' => Some(59),
+        '⎉' => Some(60),
+        '⚇' => Some(61),
+        '⍟' => Some(62),
+        '⎊' => Some(63),
+        _ => None,
+    }
+}
+
+/// The code of a primitive, if the character is one: its place among them.
+#[inline(always)]
+pub(crate) fn primitive_code(c: char) -> Option<u8>
+    ensures { result ≡ position (λ d. d == c) primitives }
+{
+    match c as u32 {
+        0..0x80 => ascii_code(c),
+        0x80..0x2200 => early_code(c),
+        0x2200..0x2300 => operator_code(c),
+        _ => late_code(c),
+    }
+}
+
+/// Whether this is a blank, punctuation, `@` or a special name of one character.
+fn is_a_mark(c: char) -> bool
+    ensures { result ≡ is_mark c }
+{
+    match c {
+        ' '
+        | '\t'
+        | '\n'
+        | '←'
+        | '⇐'
+        | '↩'
+        | '('
+        | ')'
+        | '{'
+        | '}'
+        | '⟨'
+        | '⟩'
+        | '['
+        | ']'
+        | '‿'
+        | '·'
+        | '⋄'
+        | ','
+        | '.'
+        | ';'
+        | ':'
+        | '?'
+        | '@'
+        | '𝕨'
+        | '𝕩'
+        | '𝕤'
+        | '𝕗'
+        | '𝕘'
+        | '𝕎'
+        | '𝕏'
+        | '𝕊'
+        | '𝔽'
+        | '𝔾' => true,
+        _ => false,
+    }
+}
+
+/// Whether this is a piece by itself.
+pub(crate) fn is_single(c: char) -> bool
+    ensures { result ≡ is_one_of singles c }
+{
+    is_a_mark(c) || primitive_code(c).is_some()
+}

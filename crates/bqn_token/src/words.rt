@@ -1,0 +1,131 @@
+ghost use Rattle.std.specs.Prelude.{◌≡◌, IfOk, IsTrue};
+ghost use Rattle.std.specs.List.{list_all};
+ghost use Rattle.bqn_base.specs.Names.{is_name_character as is_plain};
+ghost use Rattle.bqn_syntax.specs.Words.{begins_with_letter, is_modifier_word, is_name_character, is_name_word, lower_case, name_of, special_of, system_kind, word_kind};
+
+use crate::extent::{is_a_digit, is_a_letter};
+use bqn_base::{Memory, Name};
+use bqn_roles::role;
+use bqn_syntax::{Kind, Special};
+use std::alloc::{AllocError, Global};
+
+const MODIFIER: [char; 1] = ['𝕣'];
+
+const ONE_SIDED: [char; 2] = ['_', '𝕣'];
+
+const TWO_SIDED: [char; 3] = ['_', '𝕣', '_'];
+
+/// The special name of one character, if it is one.
+pub(crate) fn special(c: char) -> Option<Special>
+    ensures { result ≡ special_of c }
+{
+    match c {
+        '𝕨' | '𝕎' => Some(Special::Left),
+        '𝕩' | '𝕏' => Some(Special::Right),
+        '𝕤' | '𝕊' => Some(Special::Own),
+        '𝕗' | '𝔽' => Some(Special::LeftOperand),
+        '𝕘' | '𝔾' => Some(Special::RightOperand),
+        _ => None,
+    }
+}
+
+fn may_stand_in_name(c: char) -> bool
+    ensures { result ≡ is_name_character c }
+{
+    is_a_letter(c) || is_a_digit(c) || c == '_'
+}
+
+/// Whether the first character behind underscores is a letter.
+#[tactic(auto, using(crate::proofs::Names::begin_laws))]
+fn begins_with_a_letter(word: &[char]) -> bool
+    ensures { result ≡ begins_with_letter word.now }
+{
+    'word: for c in word {
+        if *c != '_' {
+            return is_a_letter(*c);
+        }
+    }
+    false
+}
+
+fn may_all_stand_in_name(word: &[char]) -> bool
+    ensures { result ≡ list_all is_name_character word.now }
+{
+    word.iter().all(|c| may_stand_in_name(*c))
+}
+
+fn is_a_name_word(word: &[char]) -> bool
+    ensures { result ≡ is_name_word word.now }
+{
+    begins_with_a_letter(word) && may_all_stand_in_name(word)
+}
+
+fn is_spelled_plainly(word: &[char]) -> bool
+    ensures { result ≡ list_all is_plain word.now }
+{
+    word.iter()
+        .all(|c| c.is_ascii_lowercase() || is_a_digit(*c))
+}
+
+fn lower(c: char) -> char
+    ensures { result ≡ lower_case c }
+{
+    c.to_ascii_lowercase()
+}
+
+fn lower_letters(alloc: Global, word: &[char]) -> Result<Vec<char>, AllocError>
+    ensures { IfOk result (λ letters. letters.items ≡ name_of word.now) }
+{
+    word.iter()
+        .copied()
+        .filter(|c| *c != '_')
+        .map(|c| lower(c))
+        .collect(alloc)
+}
+
+/// The name that a word spells: without case and underscores.
+#[tactic(auto, using(crate::proofs::Names::name_laws))]
+fn name(alloc: Global, word: &[char]) -> Result<Name, Memory>
+    requires { IsTrue (list_all is_name_character word.now) }
+    ensures { IfOk result (λ name. name ≡ name_of word.now) }
+{
+    if is_spelled_plainly(word) {
+        return Name::new(alloc, word);
+    }
+    let Ok(letters) = lower_letters(alloc, word) else {
+        return Err(Memory);
+    };
+    Name::new(alloc, letters.as_slice())
+}
+
+/// Whether the word names the modifier itself.
+fn is_a_modifier_word(word: &[char]) -> bool
+    ensures { result ≡ is_modifier_word word.now }
+{
+    word == MODIFIER.as_slice() || word == ONE_SIDED.as_slice() || word == TWO_SIDED.as_slice()
+}
+
+/// What a word stands for, or none where it is no name.
+pub(crate) fn kind_of_word(alloc: Global, word: &[char]) -> Result<Option<Kind>, Memory>
+    ensures { IfOk result (λ kind. kind ≡ word_kind word.now) }
+{
+    if is_a_modifier_word(word) {
+        return Ok(Some(Kind::Special(Special::Modifier, role(word))));
+    }
+    if !is_a_name_word(word) {
+        return Ok(None);
+    }
+    let name = name(alloc, word)?;
+    Ok(Some(Kind::Word(name, role(word))))
+}
+
+/// What a word behind `•` stands for, or none where it is no name.
+pub(crate) fn kind_of_system_word(alloc: Global, word: &[char]) -> Result<Option<Kind>, Memory>
+    ensures { IfOk result (λ kind. kind ≡ system_kind word.now) }
+{
+    if !is_a_name_word(word) {
+        return Ok(None);
+    }
+    let name = name(alloc, word)?;
+    Ok(Some(Kind::System(name, role(word))))
+}

@@ -1,0 +1,2 @@
+•Show 1
+•Show "ab
