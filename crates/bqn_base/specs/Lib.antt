@@ -3,3 +3,4 @@ pub mod Names
 pub mod Arithmetic
 pub mod Literal
 pub mod Printed
+pub mod formers

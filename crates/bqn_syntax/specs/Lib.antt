@@ -7,3 +7,5 @@ pub mod Tree
 pub mod Form
 pub mod Evaluation
 pub mod Laws
+pub mod Plain
+pub mod Levels

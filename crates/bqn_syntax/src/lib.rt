@@ -3,12 +3,16 @@
 
 mod function;
 mod laws;
+mod pattern;
 mod progress;
 mod sign;
 mod token;
+mod tree;
 
 pub use function::Function;
 pub use laws::cut_is_unique;
+pub use pattern::{Header, Pattern};
 pub use progress::Progress;
 pub use sign::Sign;
 pub use token::{Kind, Special, Token};
+pub use tree::{Arrow, BlockTree, BodyTree, Class, Derived, Expr, ModUse, Part, Step, Stmt, Tree};
