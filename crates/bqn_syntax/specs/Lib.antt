@@ -9,3 +9,12 @@ pub mod Evaluation
 pub mod Laws
 pub mod Plain
 pub mod Levels
+pub mod Sorts
+pub mod Items
+pub mod Units
+pub mod Expressions
+pub mod Headers
+pub mod Classes
+pub mod Looks
+pub mod Brackets
+pub mod Parsing

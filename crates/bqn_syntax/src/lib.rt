@@ -3,16 +3,20 @@
 
 mod function;
 mod laws;
+mod open;
 mod pattern;
 mod progress;
 mod sign;
+mod sort;
 mod token;
 mod tree;
 
 pub use function::Function;
 pub use laws::cut_is_unique;
+pub use open::Open;
 pub use pattern::{Header, Pattern};
 pub use progress::Progress;
 pub use sign::Sign;
+pub use sort::{Bracket, Inside, Sort, Tag};
 pub use token::{Kind, Special, Token};
 pub use tree::{Arrow, BlockTree, BodyTree, Class, Derived, Expr, ModUse, Part, Step, Stmt, Tree};

@@ -1,0 +1,63 @@
+use crate::tree::Arrow;
+
+/// The kind of a bracket.
+#[derive(Clone, Copy, Debug, PartialEq, Eq)]
+pub enum Bracket {
+    /// `(` and `)`
+    Round,
+    /// `⟨` and `⟩`
+    Angle,
+    /// `[` and `]`
+    Square,
+    /// `{` and `}`
+    Curly,
+}
+
+/// What a token does in a piece.
+#[derive(Clone, Copy, Debug, PartialEq, Eq)]
+pub enum Sort {
+    Opens(Bracket),
+    Closes(Bracket),
+    /// `⋄`, `,` and the newline.
+    Separates,
+    Draws(Arrow),
+    /// `‿`
+    Joins,
+    /// `.`
+    Selects,
+    /// `;`, which ends a body.
+    Ends,
+    /// `:`, which ends a header.
+    Heads,
+    /// `?`, which ends a predicate.
+    Asks,
+    /// `·`
+    Skips,
+    /// A literal, a name or a primitive.
+    Stands,
+}
+
+/// The role of a part, or that of `·`.
+#[derive(Clone, Copy, Debug, PartialEq, Eq)]
+pub enum Tag {
+    Subject,
+    Function,
+    Mod1,
+    Mod2,
+    Nothing,
+}
+
+/// What a piece stands in.
+#[derive(Clone, Copy, Debug, PartialEq, Eq)]
+pub enum Inside {
+    Program,
+    Parens,
+    List,
+    /// A list that is a pattern.
+    Pattern,
+    /// A list that is a pattern of a header, whose leaves may be literals.
+    HeaderPattern,
+    /// `[..]`
+    Merge,
+    Block,
+}
