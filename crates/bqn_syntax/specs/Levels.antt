@@ -17,7 +17,7 @@ use Rattle.bqn_syntax.specs.declared.tree.Stmt.TheVariants as stmt
 use Rattle.bqn_syntax.specs.declared.tree.BlockTree.{BlockTree as CodeBlock, out-BlockTree}
 use Rattle.bqn_syntax.specs.declared.tree.BodyTree.{BodyTree as CodeBody, out-BodyTree}
 use Rattle.bqn_syntax.specs.declared.tree.Derived.{Derived as CodeDerived, out-Derived}
-use Rattle.bqn_syntax.specs.Plain.{Name, Skip, Literal, ListPattern, StrandPattern, Value, Train, Modifier, One, Two, Leaf, Elements, Merge, Paren, Block, Field, Strand, Nothing, Apply, Assign, Modify, Eval, Predicate, Export, block, body, derived, maybe_part, patterns, exprs, uses, parts, steps, stmts, bodies, deriveds, pattern_of, header_of, expr_of, use_of, part_of, step_of, stmt_of, block_of, body_of, derived_of}
+use Rattle.bqn_syntax.specs.Plain.{Name, Skip, Literal, ListPattern, StrandPattern, Value, Train, Modifier, One, Two, Leaf, Elements, Merge, Paren, Block, Field, Strand, Nothing, Apply, Assign, Modify, Eval, Predicate, Export, block, body, derived, none, some, maybe_part, patterns, exprs, uses, parts, steps, stmts, bodies, deriveds, pattern_of, header_of, expr_of, use_of, part_of, step_of, stmt_of, block_of, body_of, derived_of}
 
 pub pattern-Name : (token : Token) → pattern_of (pattern.Name token) ≡ Name token
 pattern-Name token = search (rules, pattern_lemmas)
@@ -37,6 +37,13 @@ pattern-Strand all = search (rules, pattern_lemmas)
 pub expr-Value : (last : Option CodePart) (all : List CodeStep) → expr_of (expr.Value last all) ≡ Value (maybe_part (option_map part_of last)) (steps (map step_of all))
 expr-Value None all = search (rules, the_lemmas)
 expr-Value (Some first) all = search (rules, the_lemmas)
+
+-- and where it is known whether there is a part
+pub expr-Value-none : (all : List CodeStep) → expr_of (expr.Value None all) ≡ Value none (steps (map step_of all))
+expr-Value-none all = search (rules, the_lemmas)
+
+pub expr-Value-some : (last : CodePart) (all : List CodeStep) → expr_of (expr.Value (Some last) all) ≡ Value (some (part_of last)) (steps (map step_of all))
+expr-Value-some last all = search (rules, the_lemmas)
 
 pub expr-Train : (targets : List (Token × Arrow)) (all : List CodeDerived) → expr_of (expr.Train targets all) ≡ Train targets (deriveds (map derived_of all))
 expr-Train targets all = search (rules, the_lemmas)
@@ -78,6 +85,12 @@ pub step-Apply : (function : CodeDerived) (left : Option CodePart) → step_of (
 step-Apply function None = search (rules, the_lemmas)
 step-Apply function (Some before) = search (rules, the_lemmas)
 
+pub step-Apply-none : (function : CodeDerived) → step_of (step.Apply function None) ≡ Apply (derived_of function) none
+step-Apply-none function = search (rules, the_lemmas)
+
+pub step-Apply-some : (function : CodeDerived) (left : CodePart) → step_of (step.Apply function (Some left)) ≡ Apply (derived_of function) (some (part_of left))
+step-Apply-some function left = search (rules, the_lemmas)
+
 pub step-Assign : (target : CodePattern) (arrow : Arrow) → step_of (step.Assign target arrow) ≡ Assign (pattern_of target) arrow
 step-Assign target arrow = search (rules, the_lemmas)
 
@@ -102,4 +115,4 @@ body-out b = search (rules, the_lemmas)
 pub derived-out : (d : CodeDerived) → derived_of d ≡ derived (part_of (out-Derived d).first) (uses (map use_of (out-Derived d).uses))
 derived-out d = search (rules, the_lemmas)
 
-pub ruleset levels = (pattern-Name, pattern-Skip, pattern-Literal, pattern-List, pattern-Strand, expr-Value, expr-Train, expr-Modifier, use-One, use-Two, part-Leaf, part-List, part-Merge, part-Paren, part-Block, part-Field, part-Strand, part-Nothing, step-Apply, step-Assign, step-Modify, stmt-Eval, stmt-Predicate, stmt-Export, block-out, body-out, derived-out)
+pub ruleset levels = (pattern-Name, pattern-Skip, pattern-Literal, pattern-List, pattern-Strand, expr-Value, expr-Value-none, expr-Value-some, expr-Train, expr-Modifier, use-One, use-Two, part-Leaf, part-List, part-Merge, part-Paren, part-Block, part-Field, part-Strand, part-Nothing, step-Apply, step-Apply-none, step-Apply-some, step-Assign, step-Modify, stmt-Eval, stmt-Predicate, stmt-Export, block-out, body-out, derived-out)

@@ -1,7 +1,7 @@
 use crate::token::Token;
 use bqn_base::{Place, Row};
 
-/// The left side of a definition, or an argument in a header.
+/// What a value is taken apart by: the target of an arrow, or an argument of a header.
 #[cycle(pattern)]
 #[derive(Drop)]
 pub enum Pattern {
@@ -20,14 +20,14 @@ pub enum Pattern {
 /// What stands before the `:` of a body: its own name and what is around it.
 #[derive(Drop)]
 pub struct Header {
-    /// The left argument, if there is one.
+    /// The left argument, where the header has one.
     pub left: Option<Pattern>,
-    /// The left operand, where the body is one of a modifier.
+    /// The left operand, of a modifier.
     pub left_operand: Option<Token>,
-    /// The name of the block within the body.
+    /// What is called: `𝕊`, `_𝕣`, `_𝕣_` or a name.
     pub own: Token,
-    /// The right operand, where the body is one of a 2-modifier.
+    /// The right operand, of a 2-modifier.
     pub right_operand: Option<Token>,
-    /// The right argument, if there is one.
+    /// The right argument, where the header has one.
     pub right: Option<Pattern>,
 }

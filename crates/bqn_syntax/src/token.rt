@@ -1,4 +1,7 @@
-use bqn_base::{Name, Place, Role, Text};
+ghost use Rattle.std.specs.Prelude.{◌≡◌, IfOk};
+
+use bqn_base::{Memory, Name, Place, Role, Text};
+use std::alloc::Global;
 
 /// A name that belongs to the block whose text it stands in.
 #[derive(Clone, Copy, Debug, PartialEq, Eq)]
@@ -31,9 +34,39 @@ pub enum Kind {
     Punct(char),
 }
 
+impl Kind {
+    /// An identical kind.
+    pub fn copy(&self, alloc: Global) -> Result<Kind, Memory>
+        ensures { IfOk result (λ kind. kind ≡ self.now) }
+    {
+        match self {
+            Kind::Number(number) => Ok(Kind::Number(*number)),
+            Kind::Char(c) => Ok(Kind::Char(*c)),
+            Kind::Text(text) => Ok(Kind::Text(Text::new(alloc, text.chars())?)),
+            Kind::Word(name, role) => Ok(Kind::Word(Name::new(alloc, name.chars())?, *role)),
+            Kind::System(name, role) => Ok(Kind::System(Name::new(alloc, name.chars())?, *role)),
+            Kind::Special(special, role) => Ok(Kind::Special(*special, *role)),
+            Kind::Given(primitive) => Ok(Kind::Given(*primitive)),
+            Kind::Punct(c) => Ok(Kind::Punct(*c)),
+        }
+    }
+}
+
 /// A token and the place of its first code point.
 #[derive(Debug, Drop)]
 pub struct Token {
     pub kind: Kind,
     pub place: Place,
+}
+
+impl Token {
+    /// An identical token.
+    pub fn copy(&self, alloc: Global) -> Result<Token, Memory>
+        ensures { IfOk result (λ token. token ≡ self.now) }
+    {
+        Ok(Token {
+            kind: self.kind.copy(alloc)?,
+            place: self.place,
+        })
+    }
 }

@@ -3,7 +3,7 @@ use crate::token::Token;
 use bqn_base::{Place, Row};
 use sqlite_items::Boxed;
 
-/// What an arrow does with the value on its right.
+/// What an arrow does with what stands on its right.
 #[derive(Clone, Copy, Debug, PartialEq, Eq)]
 pub enum Arrow {
     /// `←`: defines names.
@@ -43,7 +43,7 @@ pub struct Tree {
 pub enum Stmt {
     /// An expression that is evaluated.
     Eval(Expr),
-    /// `e?`: goes on only where the value is 1.
+    /// `e?`: the body goes on only where the value is 1.
     Predicate(Expr),
     /// `names⇐`: exports names.
     Export(Pattern),
@@ -53,15 +53,13 @@ pub enum Stmt {
 #[cycle(tree)]
 #[derive(Drop)]
 pub enum Expr {
-    /// A subject: the rightmost part, and what is done with it from right to left.
-    ///
-    /// Without a last part it is a function, a modifier or nothing at all that the first step
-    /// starts from.
+    /// A value: the part that stands last, and what is done with it, from right to left. Only
+    /// where the row ends in a change `a F↩` is there no last part.
     Value {
         last: Option<Part>,
         steps: Row<Step>,
     },
-    /// A function: a train of functions and subjects, perhaps assigned to names.
+    /// A function, perhaps assigned to names: the parts of a train, from left to right.
     Train {
         targets: Row<(Token, Arrow)>,
         parts: Row<Derived>,
@@ -87,7 +85,7 @@ pub enum Step {
         target: Pattern,
         arrow: Arrow,
     },
-    /// `name F↩`: the name is changed by a function.
+    /// `a F↩`: the name is changed by a function.
     Modify {
         target: Token,
         function: Derived,
@@ -116,7 +114,7 @@ pub enum ModUse {
 #[cycle(tree)]
 #[derive(Drop)]
 pub enum Part {
-    /// A single token: a literal, a name or a primitive.
+    /// A single token: a literal, a name of any kind or a primitive.
     Leaf(Token),
     /// `⟨a,b⟩`: the list of these values.
     List(Row<Expr>),
