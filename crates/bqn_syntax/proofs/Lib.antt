@@ -2,3 +2,4 @@ pub mod Longest
 pub mod Cutting
 mod Samples
 mod TokenSamples
+mod BracketSamples

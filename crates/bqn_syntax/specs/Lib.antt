@@ -3,6 +3,7 @@ pub mod Table
 pub mod Cut
 pub mod Words
 pub mod Tokens
+pub mod Brackets
 pub mod Tree
 pub mod Form
 pub mod Evaluation
