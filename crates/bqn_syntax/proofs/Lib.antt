@@ -3,3 +3,4 @@ pub mod Cutting
 mod Samples
 mod TokenSamples
 mod GrammarSamples
+mod BracketSamples

@@ -3,6 +3,7 @@ pub mod Table
 pub mod Cut
 pub mod Words
 pub mod Tokens
+pub mod Brackets
 pub mod Tree
 pub mod Form
 pub mod Evaluation
@@ -16,5 +17,4 @@ pub mod Expressions
 pub mod Headers
 pub mod Classes
 pub mod Looks
-pub mod Brackets
 pub mod Parsing
