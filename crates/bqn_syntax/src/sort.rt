@@ -1,3 +1,8 @@
+ghost use Rattle.std.specs.Prelude.{◌≡◌};
+ghost use Rattle.bqn_syntax.specs.Sorts.{role_tag};
+
+use bqn_base::Role;
+
 use crate::tree::Arrow;
 
 /// The kind of a bracket.
@@ -45,6 +50,20 @@ pub enum Tag {
     Mod1,
     Mod2,
     Nothing,
+}
+
+impl Tag {
+    /// The tag of a role.
+    pub fn of(role: Role) -> Tag
+        ensures { result ≡ role_tag role }
+    {
+        match role {
+            Role::Subject => Tag::Subject,
+            Role::Function => Tag::Function,
+            Role::Mod1 => Tag::Mod1,
+            Role::Mod2 => Tag::Mod2,
+        }
+    }
 }
 
 /// What a piece stands in.

@@ -1,7 +1,11 @@
 ghost use Rattle.std.specs.Prelude.{◌≡◌, IfOk};
+ghost use Rattle.bqn_syntax.specs.Sorts.{sort_of, kind_tag};
 
 use bqn_base::{Memory, Name, Place, Role, Text};
 use std::alloc::Global;
+
+use crate::sort::{Bracket, Sort, Tag};
+use crate::tree::Arrow;
 
 /// A name that belongs to the block whose text it stands in.
 #[derive(Clone, Copy, Debug, PartialEq, Eq)]
@@ -48,6 +52,49 @@ impl Kind {
             Kind::Special(special, role) => Ok(Kind::Special(*special, *role)),
             Kind::Given(primitive) => Ok(Kind::Given(*primitive)),
             Kind::Punct(c) => Ok(Kind::Punct(*c)),
+        }
+    }
+
+    /// What such a token does in a piece.
+    pub fn sort(&self) -> Sort
+        ensures { result ≡ sort_of self.now }
+    {
+        match self {
+            Kind::Punct(c) => match *c {
+                '(' => Sort::Opens(Bracket::Round),
+                '⟨' => Sort::Opens(Bracket::Angle),
+                '[' => Sort::Opens(Bracket::Square),
+                '{' => Sort::Opens(Bracket::Curly),
+                ')' => Sort::Closes(Bracket::Round),
+                '⟩' => Sort::Closes(Bracket::Angle),
+                ']' => Sort::Closes(Bracket::Square),
+                '}' => Sort::Closes(Bracket::Curly),
+                '←' => Sort::Draws(Arrow::Define),
+                '⇐' => Sort::Draws(Arrow::Export),
+                '↩' => Sort::Draws(Arrow::Change),
+                '‿' => Sort::Joins,
+                '.' => Sort::Selects,
+                ';' => Sort::Ends,
+                ':' => Sort::Heads,
+                '?' => Sort::Asks,
+                '·' => Sort::Skips,
+                _ => Sort::Separates,
+            },
+            _ => Sort::Stands,
+        }
+    }
+
+    /// The role of such a token as a part; a mark of punctuation has none.
+    pub fn tag(&self) -> Tag
+        ensures { result ≡ kind_tag self.now }
+    {
+        match self {
+            Kind::Number(_) | Kind::Char(_) | Kind::Text(_) => Tag::Subject,
+            Kind::Word(_, role) | Kind::System(_, role) | Kind::Special(_, role) => Tag::of(*role),
+            Kind::Given(code) if *code < 44 => Tag::Function,
+            Kind::Given(code) if *code < 53 => Tag::Mod1,
+            Kind::Given(_) => Tag::Mod2,
+            Kind::Punct(_) => Tag::Nothing,
         }
     }
 }
