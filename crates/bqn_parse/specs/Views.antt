@@ -1,0 +1,63 @@
+-- What items, terms and units stand for.
+use Rattle.std.specs.Prelude.{◌≡◌, List, [], ◌∷◌, map, reverse, Option, Some, None, Result, Ok, Err}
+use Rattle.std.specs.Option.{option_map}
+use Rattle.bqn_base.specs.declared.refusal.Refusal.{Refusal}
+use Rattle.bqn_syntax.specs.declared.tree.Tree.{Tree}
+use Rattle.bqn_syntax.specs.Items as items
+use Rattle.bqn_syntax.specs.Units as units
+use Rattle.bqn_syntax.specs.Plain.{part_of, pattern_of, derived_of, Stmts, tree_of}
+use Rattle.bqn_parse.specs.declared.item.Element.{Element}
+use Rattle.bqn_parse.specs.declared.item.Element.TheVariants as element
+use Rattle.bqn_parse.specs.declared.item.Item.{Item}
+use Rattle.bqn_parse.specs.declared.item.Item.TheVariants as item
+use Rattle.bqn_parse.specs.declared.term.Term.{Term}
+use Rattle.bqn_parse.specs.declared.term.Term.TheVariants as term
+use Rattle.bqn_parse.specs.declared.unit.Unit.{Unit as CodeUnit}
+use Rattle.bqn_parse.specs.declared.unit.Unit.TheVariants as unit
+use Rattle.bqn_parse.specs.declared.error.ParseError.{ParseError}
+use Rattle.bqn_parse.specs.declared.error.ParseError.TheVariants.{Refused, Memory}
+
+abbrev pub element_of : Element → items.Element
+element_of (element.Part x) = items.OfPart (part_of x)
+element_of (element.List q) = items.OfList (pattern_of q)
+
+abbrev pub item_of : Item → items.Item
+item_of (item.Standing x) = items.Standing (element_of x)
+item_of (item.Drawn a) = items.Drawn a
+item_of item.Joining = items.Joining
+item_of item.Selecting = items.Selecting
+item_of item.Wrong = items.Wrong
+
+abbrev pub items_of : List Item → List items.Item
+items_of all = map item_of all
+
+abbrev pub term_of : Term → items.Term
+term_of (term.Operand x) = items.Operand (part_of x)
+term_of (term.Target q) = items.Target (pattern_of q)
+term_of (term.Draw a) = items.Draw a
+
+abbrev pub terms_shown : List Term → List items.Term
+terms_shown all = map term_of all
+
+abbrev pub unit_shown : CodeUnit → units.Unit'
+unit_shown (unit.Subject x) = units.Subject (part_of x)
+unit_shown (unit.Function f) = units.Function (derived_of f)
+unit_shown (unit.Absent x) = units.Absent (part_of x)
+unit_shown (unit.Alone x) = units.Alone (part_of x)
+unit_shown (unit.Arrow a) = units.Arrow' a
+unit_shown (unit.Aim q) = units.Aim (pattern_of q)
+
+-- the last one first, in front of others
+abbrev pub backward_onto : List CodeUnit → List units.Unit' → List units.Unit'
+backward_onto [] so = so
+backward_onto (u ∷ us) so = backward_onto us (unit_shown u ∷ so)
+
+-- the units, the last one first
+abbrev pub backward : List CodeUnit → List units.Unit'
+backward us = backward_onto us []
+
+-- the tree that is given is this, or the refusal is; want of memory says nothing
+abbrev pub Gives : Result Stmts Refusal → Result Tree ParseError → Type 0
+Gives answer (Ok tree) = answer ≡ Ok (tree_of tree)
+Gives answer (Err (Refused r)) = answer ≡ Err r
+Gives answer (Err Memory) = Unit {0}

@@ -1,0 +1,17 @@
+//! The tree of a token list.
+#![tactic(auto)]
+
+mod error;
+mod expression;
+mod item;
+mod parsing;
+mod pattern;
+mod pieces;
+mod tags;
+mod term;
+mod terms;
+mod unit;
+mod units;
+
+pub use error::ParseError;
+pub use parsing::parse;
