@@ -18,3 +18,6 @@ pub mod Headers
 pub mod Classes
 pub mod Looks
 pub mod Parsing
+pub mod Spells
+pub mod Well
+pub mod Grammar
