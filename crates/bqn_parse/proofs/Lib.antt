@@ -1,1 +1,2 @@
 pub mod TreeItems
+pub mod FoundLooks
