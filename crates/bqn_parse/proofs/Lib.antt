@@ -1,2 +1,3 @@
 pub mod TreeItems
 pub mod FoundLooks
+pub mod FoundArrows
