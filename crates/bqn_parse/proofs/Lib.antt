@@ -1,3 +1,4 @@
 pub mod TreeItems
 pub mod FoundLooks
 pub mod FoundArrows
+pub mod FoundSteps
