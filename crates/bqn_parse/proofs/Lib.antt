@@ -1,5 +1,6 @@
 pub mod TreeItems
-pub mod FoundLooks
-pub mod FoundArrows
-pub mod FoundSteps
-pub mod FoundPatterns
+pub mod WalkedLooks
+pub mod WalkedArrows
+pub mod WalkedSteps
+pub mod WalkedPatterns
+pub mod WalkedTree

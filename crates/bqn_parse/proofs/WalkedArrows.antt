@@ -20,7 +20,7 @@ use Rattle.bqn_syntax.specs.Well.{IsLiteral, WellPattern, WellPatterns, WellJoin
 use Rattle.bqn_syntax.specs.Plain.{Pattern, Name, Skip, Literal, ListPattern, StrandPattern, Patterns, no_patterns, and_patterns, Header, Expr, Value, Train, Modifier, Use, One, Two, Part, Leaf, Elements, Merge, Paren, Block, Field, Strand, Nothing, Step, Apply, Assign, Modify, Stmt, Eval, Predicate, Export, BlockTree, block, BodyTree, body, Derived, derived, MaybePart, none, some, Exprs, no_exprs, and_exprs, Uses, no_uses, and_uses, Parts, no_parts, and_parts, Steps, no_steps, and_steps, Stmts, no_stmts, and_stmts, Bodies, no_bodies, and_bodies, Deriveds, no_deriveds, and_deriveds}
 
 use Rattle.bqn_syntax.specs.Well.{IsNoStrand, AreTwo, IsBase, IsElement, AreTwoParts}
-use Rattle.bqn_parse.proofs.FoundLooks.{arrow_ahead, element_ahead, colon_ahead, outer_of, Crosses, Passes, Groups, crosses, then_cross, crosses_gap, exact_is, mark_is, mark_sort, group_of, list_groups, word_stands, name_stands, literal_stands, expr_passes, exprs_crosses, bodies_crosses, arrow_sort}
+use Rattle.bqn_parse.proofs.WalkedLooks.{arrow_ahead, element_ahead, colon_ahead, outer_of, Crosses, Passes, Groups, crosses, then_cross, crosses_gap, exact_is, mark_is, mark_sort, group_of, list_groups, word_stands, name_stands, literal_stands, expr_passes, exprs_crosses, bodies_crosses, arrow_sort}
 
 -- what every token list that fits these signs has ahead
 abbrev pub Arrows : Bool → List Sign → Type 0
@@ -37,7 +37,7 @@ pub drawn_arrows : (a : Arrow) (k : List Sign) → Arrows true (Mark (arrow_code
 drawn_arrows a k ts f = let m = mark_is f in ap (λ (l : Looks). l.here.arrow) (looks_at (Draws a) m.0 ts m.1 m.2 (mark_sort m.0 (arrow_code a) (Draws a) m.3 (arrow_sort a)))
 
 -- what is no arrow and no joiner
-abbrev IsOther : Sort → Type 0
+abbrev pub IsOther : Sort → Type 0
 IsOther (Draws a) = ⊥
 IsOther Joins = ⊥
 IsOther _ = Unit {0}
@@ -58,8 +58,8 @@ no_arrow Stands l w = refl
 pub other_arrows : (q : Sort) (c : ℕ) (k : List Sign) → punct_sort c ≡ q → IsOther q → Arrows false (Mark c ∷ k)
 other_arrows q c k p w ts f = let m = mark_is f in ap (λ (l : Looks). l.here.arrow) (looks_at q m.0 ts m.1 m.2 (mark_sort m.0 c q m.3 p)) ∙ no_arrow q (looks_of m.1) w
 
-exact_arrow : (q : Sort) (t : Token) (k : List Sign) (ts : List Token) → sort_of t.kind ≡ q → IsOther q → Fits (Exact t ∷ k) ts → arrow_ahead ts ≡ false
-exact_arrow q t k ts e w f = let x = exact_is f in ap (λ (l : Looks). l.here.arrow) (looks_at q t ts x.0 x.1 e) ∙ no_arrow q (looks_of x.0) w
+pub exact_arrow_ahead : (q : Sort) (t : Token) (k : List Sign) (ts : List Token) → sort_of t.kind ≡ q → IsOther q → Fits (Exact t ∷ k) ts → arrow_ahead ts ≡ false
+exact_arrow_ahead q t k ts e w f = let x = exact_is f in ap (λ (l : Looks). l.here.arrow) (looks_at q t ts x.0 x.1 e) ∙ no_arrow q (looks_of x.0) w
 
 pub apart_arrows : (k : List Sign) → Arrows false (Apart ∷ k)
 apart_arrows k whole (apart {t = t} {ts = ts} e f) = ap (λ (l : Looks). l.here.arrow) (looks_at Separates t (t ∷ ts) ts refl e)
@@ -96,18 +96,18 @@ joined_arrows literals b (and_patterns q qs) k w g =
     joiner_arrow (pattern_signs q (joined_more qs k)) b (λ rest f. pattern_element literals b q (joined_more qs k) rest w.0 w.1 (joined_arrows literals b qs k w.2 g) f)
 
 pub pattern_arrows : (literals : Bool) (q : Pattern) (k : List Sign) → WellPattern literals q → Arrows false (pattern_signs q k)
-pattern_arrows literals (Name t) k w ts f = exact_arrow Stands t k ts (word_stands t.kind w) tt f
-pattern_arrows literals (Skip place) k w ts f = exact_arrow Skips (mark_at 183 place) k ts refl tt f
-pattern_arrows literals (Literal t) k w ts f = exact_arrow Stands t k ts (literal_stands t.kind w.1) tt f
+pattern_arrows literals (Name t) k w ts f = exact_arrow_ahead Stands t k ts (word_stands t.kind w) tt f
+pattern_arrows literals (Skip place) k w ts f = exact_arrow_ahead Skips (mark_at 183 place) k ts refl tt f
+pattern_arrows literals (Literal t) k w ts f = exact_arrow_ahead Stands t k ts (literal_stands t.kind w.1) tt f
 pattern_arrows literals (ListPattern qs) k w ts f = (list_groups literals qs k ts w f).arrow
 pattern_arrows literals (StrandPattern no_patterns) k w ts f = elim w.0 [ ]
 pattern_arrows literals (StrandPattern (and_patterns q no_patterns)) k w ts f = elim w.0 [ ]
 pattern_arrows literals (StrandPattern (and_patterns q (and_patterns r qs))) k w ts f = element_arrow literals q (joined_more (and_patterns r qs) k) ts w.1.0 w.1.1 f
   where
     element_arrow : (literals : Bool) (q : Pattern) (k : List Sign) (ts : List Token) → IsNoStrand q → WellPattern literals q → Fits (pattern_signs q k) ts → arrow_ahead ts ≡ false
-    element_arrow literals (Name t) k ts n w f = exact_arrow Stands t k ts (word_stands t.kind w) tt f
-    element_arrow literals (Skip place) k ts n w f = exact_arrow Skips (mark_at 183 place) k ts refl tt f
-    element_arrow literals (Literal t) k ts n w f = exact_arrow Stands t k ts (literal_stands t.kind w.1) tt f
+    element_arrow literals (Name t) k ts n w f = exact_arrow_ahead Stands t k ts (word_stands t.kind w) tt f
+    element_arrow literals (Skip place) k ts n w f = exact_arrow_ahead Skips (mark_at 183 place) k ts refl tt f
+    element_arrow literals (Literal t) k ts n w f = exact_arrow_ahead Stands t k ts (literal_stands t.kind w.1) tt f
     element_arrow literals (ListPattern qs) k ts n w f = (list_groups literals qs k ts w f).arrow
     element_arrow literals (StrandPattern qs) k ts n w f = elim n [ ]
 
@@ -135,22 +135,22 @@ block_groups (block place c bs) k ts w f =
     let m = exact_is f in
     group_of Curly 125 (mark_at 123 place) k ts m.0 m.1 refl refl (bodies_crosses bs (Mark 125 ∷ k) m.0 w.2 m.2)
 
-name_arrows : (names : List Token) (k : List Sign) → NamesFit names → Arrows false (name_signs names k)
+pub name_arrows : (names : List Token) (k : List Sign) → NamesFit names → Arrows false (name_signs names k)
 name_arrows [] k w = elim w [ ]
 name_arrows (t ∷ names) k w = other_arrows Selects 46 (Exact t ∷ name_signs names k) refl tt
 
 pub part_arrows : (x : Part) (k : List Sign) → WellPart x → Arrows false (part_signs x k)
-part_arrows (Leaf t) k w ts f = exact_arrow Stands t k ts w tt f
+part_arrows (Leaf t) k w ts f = exact_arrow_ahead Stands t k ts w tt f
 part_arrows (Elements es) k w ts f = (elements_groups es k ts w f).arrow
 part_arrows (Merge es) k w ts f = (merge_groups es k ts w.1 f).arrow
 part_arrows (Paren e) k w ts f = (parens_groups e k ts w f).arrow
 part_arrows (Block b) k w ts f = (block_groups b k ts w f).arrow
 part_arrows (Field x names) k w ts f = part_arrows x (name_signs names k) w.2 ts f
-part_arrows (Nothing place) k w ts f = exact_arrow Skips (mark_at 183 place) k ts refl tt f
+part_arrows (Nothing place) k w ts f = exact_arrow_ahead Skips (mark_at 183 place) k ts refl tt f
 part_arrows (Strand ps) k w ts f = parts_arrow ps k ts w.0 w.1 f
   where
     element_arrow : (x : Part) (k : List Sign) (ts : List Token) → IsElement x → WellPart x → Fits (part_signs x k) ts → arrow_ahead ts ≡ false
-    element_arrow (Leaf t) k ts n w f = exact_arrow Stands t k ts w tt f
+    element_arrow (Leaf t) k ts n w f = exact_arrow_ahead Stands t k ts w tt f
     element_arrow (Elements es) k ts n w f = (elements_groups es k ts w f).arrow
     element_arrow (Merge es) k ts n w f = (merge_groups es k ts w.1 f).arrow
     element_arrow (Paren e) k ts n w f = (parens_groups e k ts w f).arrow
@@ -158,13 +158,13 @@ part_arrows (Strand ps) k w ts f = parts_arrow ps k ts w.0 w.1 f
     element_arrow (Field x names) k ts n w f = part_arrows' x (name_signs names k) ts w.0 w.2 f
       where
         part_arrows' : (x : Part) (k : List Sign) (ts : List Token) → IsBase x → WellPart x → Fits (part_signs x k) ts → arrow_ahead ts ≡ false
-        part_arrows' (Leaf t) k ts n w f = exact_arrow Stands t k ts w tt f
+        part_arrows' (Leaf t) k ts n w f = exact_arrow_ahead Stands t k ts w tt f
         part_arrows' (Elements es) k ts n w f = (elements_groups es k ts w f).arrow
         part_arrows' (Merge es) k ts n w f = (merge_groups es k ts w.1 f).arrow
         part_arrows' (Paren e) k ts n w f = (parens_groups e k ts w f).arrow
         part_arrows' (Block b) k ts n w f = (block_groups b k ts w f).arrow
         part_arrows' (Field y names) k ts n w f = elim n [ ]
-        part_arrows' (Nothing place) k ts n w f = exact_arrow Skips (mark_at 183 place) k ts refl tt f
+        part_arrows' (Nothing place) k ts n w f = exact_arrow_ahead Skips (mark_at 183 place) k ts refl tt f
         part_arrows' (Strand ps) k ts n w f = elim n [ ]
     element_arrow (Nothing place) k ts n w f = elim n [ ]
     element_arrow (Strand ps) k ts n w f = elim n [ ]

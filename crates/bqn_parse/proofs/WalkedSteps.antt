@@ -17,7 +17,7 @@ use Rattle.bqn_syntax.specs.Items.{Element, Item, Standing}
 use Rattle.bqn_syntax.specs.Parsing.{Level, Levels, levels, fresh, or_first, begun, and_item, with_items, and_body, no_piece, ended_by, ended, inside_of, closes, whole, whole_of, handed, go_on, taken, opened, closed, separated, step, walk, program_of}
 use Rattle.bqn_syntax.specs.Spells.{Sign, Exact, Mark, Apart, Gap, Fits, exact, mark, apart, one_more, no_more}
 use Rattle.bqn_syntax.specs.Plain.{Stmts}
-use Rattle.bqn_parse.proofs.FoundLooks.{exact_is, mark_is, apart_is, mark_sort}
+use Rattle.bqn_parse.proofs.WalkedLooks.{exact_is, mark_is, apart_is, mark_sort}
 
 abbrev walked : Result Levels Refusal → List Token → Result Stmts Refusal
 walked (Err r) ts = Err r

@@ -21,9 +21,9 @@ use Rattle.bqn_syntax.specs.Spells.{Sign, Exact, Mark, Apart, Gap, Fits, exact, 
 use Rattle.bqn_syntax.specs.Well.{WellPattern, WellPatterns, WellJoined, IsValue, WellExpr, pattern_depth, patterns_depth}
 use Rattle.bqn_syntax.specs.Plain.{Pattern, Name, Skip, Literal, ListPattern, StrandPattern, Patterns, no_patterns, and_patterns, patterns, Expr, Leaf, Nothing, Stmt, Eval, Predicate, Export}
 use Rattle.bqn_parse.proofs.TreeItems.{part_item, pattern_items, joined_items, joined_more_items, expr_items}
-use Rattle.bqn_parse.proofs.FoundLooks.{arrow_ahead, colon_ahead, exact_is, mark_is, mark_sort, word_stands, literal_stands, behind_opening, list_crosses, crosses_gap, pattern_passes, joined_more_passes}
-use Rattle.bqn_parse.proofs.FoundArrows.{Arrows, Colons, other_arrows, apart_arrows, gap_arrows, joined_arrows}
-use Rattle.bqn_parse.proofs.FoundSteps.{having, clean, Arrives, nothing_more, and_then, to_items, take_exact, take_mark, Many, gap_walks, Completes, apart_walks, Makes, close_after, close_empty, open_step, group_arrives}
+use Rattle.bqn_parse.proofs.WalkedLooks.{arrow_ahead, colon_ahead, exact_is, mark_is, mark_sort, word_stands, literal_stands, behind_opening, list_crosses, crosses_gap, pattern_passes, joined_more_passes}
+use Rattle.bqn_parse.proofs.WalkedArrows.{Arrows, Colons, other_arrows, apart_arrows, gap_arrows, joined_arrows}
+use Rattle.bqn_parse.proofs.WalkedSteps.{having, clean, Arrives, nothing_more, and_then, to_items, take_exact, take_mark, Many, gap_walks, Completes, apart_walks, Makes, close_after, close_empty, open_step, group_arrives}
 
 -- what is known of single pieces: a well piece is judged to be itself by its items
 pub record Pieces : Type 0 where
