@@ -1,1 +1,4 @@
 pub mod TreeItems
+pub mod FoundTerms
+pub mod FoundPatterns
+pub mod FoundSteps
