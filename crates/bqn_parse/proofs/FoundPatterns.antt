@@ -1,19 +1,16 @@
 -- Patterns are read as they are written: before an arrow, and by themselves.
-use Rattle.std.proofs.Common.{◌≡◌, ℕ, Bool, true, false, List, [], ◌∷◌, ◌++◌, Option, Some, None, refl, sym, ap, ◌∙◌, subst, append_assoc}
+use Rattle.std.proofs.Common.{◌≡◌, Bool, true, false, List, [], ◌∷◌, ◌++◌, Option, Some, refl, sym, ap, ◌∙◌, subst, append_assoc}
 use Rattle.std.proofs.lemmas.List.{append-nil}
 use Rattle.std.specs.Option.{option_map, option_and_then}
 use Rattle.bqn_syntax.specs.declared.token.Kind.{Kind}
 use Rattle.bqn_syntax.specs.declared.token.Kind.TheVariants as kind
 use Rattle.bqn_syntax.specs.declared.token.Token.{Token}
-use Rattle.bqn_syntax.specs.declared.tree.Arrow.{Arrow}
-use Rattle.bqn_syntax.specs.declared.sort.Tag.{Tag}
-use Rattle.bqn_syntax.specs.declared.sort.Tag.TheVariants as tag
 use Rattle.bqn_syntax.specs.Sorts.{is_word}
-use Rattle.bqn_syntax.specs.Items.{Element, OfPart, OfList, Item, Standing, Drawn, Joining, both, each, leaf_pattern, element_pattern, group_pattern, onto_first, groups, only_group, piece_pattern, Term, Operand, Target, Draw, aimed_term, Reading, Between, At, Joined, Terms, reads, aimed_terms, stand, put, puts}
-use Rattle.bqn_syntax.specs.Plain.{Pattern, Name, Skip, Literal, ListPattern, StrandPattern, Patterns, no_patterns, and_patterns, patterns, Part, Leaf, Elements, Nothing}
-use Rattle.bqn_syntax.specs.Well.{WellPattern, WellPatterns, WellJoined, AreTwo, IsNoStrand, IsLiteral, IsTarget}
-use Rattle.bqn_parse.proofs.TreeItems.{part_item, pattern_items, joined_items, joined_more_items}
-use Rattle.bqn_parse.proofs.FoundTerms.{run, puts-append, run-append, Gives, Aims, Joins, stands_given}
+use Rattle.bqn_syntax.specs.Items.{Element, OfPart, OfList, Item, Standing, both, each, leaf_pattern, element_pattern, onto_first, groups, only_group, piece_pattern, Term, Operand, Target, aimed_term, At, Joined, Terms, reads, aimed_terms, puts}
+use Rattle.bqn_syntax.specs.Plain.{Pattern, Name, Skip, Literal, ListPattern, StrandPattern, Patterns, no_patterns, and_patterns, patterns, Leaf, Nothing}
+use Rattle.bqn_syntax.specs.Well.{WellPattern, WellJoined, AreTwo, IsNoStrand, IsLiteral}
+use Rattle.bqn_parse.proofs.TreeItems.{pattern_items, joined_items, joined_more_items}
+use Rattle.bqn_parse.proofs.FoundTerms.{run, run-append, Gives, Aims, Joins, stands_given}
 
 abbrev pub pattern_element : Pattern → Element
 pattern_element (Name t) = OfPart (Leaf t)
@@ -134,12 +131,12 @@ joined_found literals (and_patterns q (and_patterns r qs)) two w =
     ∙ ap (λ (o : Option (List (List Element))). option_and_then (only_group literals) o) (more_groups literals (pattern_element q) (and_patterns r qs) w.2)
     ∙ strand_found literals (and_patterns q (and_patterns r qs)) w
 
-pub pattern_found : (literals : Bool) (q : Pattern) → WellPattern literals q → piece_pattern literals (pattern_items q) ≡ Some q
-pattern_found literals (StrandPattern qs) w = joined_found literals qs w.0 w.1
-pattern_found literals (Name t) w = element_found literals (Name t) tt w
-pattern_found literals (Skip place) w = refl
-pattern_found literals (Literal t) w = element_found literals (Literal t) tt w
-pattern_found literals (ListPattern qs) w = refl
+pub pattern_read : (literals : Bool) (q : Pattern) → WellPattern literals q → piece_pattern literals (pattern_items q) ≡ Some q
+pattern_read literals (StrandPattern qs) w = joined_found literals qs w.0 w.1
+pattern_read literals (Name t) w = element_found literals (Name t) tt w
+pattern_read literals (Skip place) w = refl
+pattern_read literals (Literal t) w = element_found literals (Literal t) tt w
+pattern_read literals (ListPattern qs) w = refl
 
 -- a pattern has an item
 joined_some : (literals : Bool) (qs : Patterns) → AreTwo qs → WellJoined literals qs → joined_items qs ≡ [] → ⊥
@@ -148,6 +145,6 @@ joined_some literals (and_patterns q qs) two w e =
     let h : Standing (pattern_element q) ∷ joined_more_items qs ≡ [] = sym (ap (λ (l : List Item). l ++ joined_more_items qs) (one_item q w.0)) ∙ e in
     absurd (cc)
 
-pub pattern_items_are_some : (literals : Bool) (q : Pattern) → WellPattern literals q → pattern_items q ≡ [] → ⊥
-pattern_items_are_some literals (StrandPattern qs) w e = joined_some literals qs w.0 w.1 e
-pattern_items_are_some literals _ w e = absurd (cc)
+pub pattern_has_items : (literals : Bool) (q : Pattern) → WellPattern literals q → pattern_items q ≡ [] → ⊥
+pattern_has_items literals (StrandPattern qs) w e = joined_some literals qs w.0 w.1 e
+pattern_has_items literals _ w e = absurd (cc)

@@ -1,20 +1,19 @@
 -- The units of a tree, and that its items are read as their terms.
-use Rattle.std.proofs.Common.{◌≡◌, ℕ, Bool, true, false, List, [], ◌∷◌, ◌++◌, Option, Some, None, refl, sym, ap, ◌∙◌, subst, append_assoc}
+use Rattle.std.proofs.Common.{◌≡◌, false, List, [], ◌∷◌, ◌++◌, Option, Some, None, refl, sym, ap, ◌∙◌, subst, append_assoc}
 use Rattle.std.proofs.lemmas.List.{append-nil}
-use Rattle.std.specs.Option.{option_map, option_and_then}
-use Rattle.bqn_syntax.specs.declared.token.Kind.{Kind}
+use Rattle.std.specs.Option.{option_and_then}
 use Rattle.bqn_syntax.specs.declared.token.Token.{Token}
 use Rattle.bqn_syntax.specs.declared.tree.Arrow.{Arrow}
 use Rattle.bqn_syntax.specs.declared.tree.Arrow.TheVariants as arrow
 use Rattle.bqn_syntax.specs.declared.sort.Tag.{Tag}
 use Rattle.bqn_syntax.specs.declared.sort.Tag.TheVariants as tag
-use Rattle.bqn_syntax.specs.Sorts.{tag as tag_of, is_name}
-use Rattle.bqn_syntax.specs.Items.{Element, OfPart, OfList, Item, Standing, Drawn, Term, Operand, Target, Draw, Reading, Between, Terms, reads, puts, finished, terms_of}
+use Rattle.bqn_syntax.specs.Sorts.{tag as tag_of}
+use Rattle.bqn_syntax.specs.Items.{OfPart, Drawn, Term, Operand, Target, Draw, Reading, Between, Terms, reads, finished, terms_of}
 use Rattle.bqn_syntax.specs.Units.{Unit', Subject, Function, Absent, Alone, Arrow', Aim, alone}
-use Rattle.bqn_syntax.specs.Plain.{Pattern, Name, Skip, Literal, ListPattern, StrandPattern, Expr, Value, Train, Modifier, Use, One, Two, Part, Leaf, Elements, Merge, Paren, Block, Field, Strand, Nothing, Step, Apply, Assign, Modify, Derived, derived, MaybePart, none, some, Uses, no_uses, and_uses, Steps, no_steps, and_steps, Deriveds, no_deriveds, and_deriveds}
-use Rattle.bqn_syntax.specs.Well.{WellExpr, WellPart, WellSteps, WellStep, WellDerived, WellDeriveds, WellUses, WellUse, WellPattern, UseFits, UsesFit, IsFunction, IsTarget, MayStandBeforeArrow, LastOperand, EndsInNoList, BeginsWithChange, IsLast}
-use Rattle.bqn_parse.proofs.TreeItems.{part_item, pattern_items, target_items, part_items, maybe_items, use_items, uses_items, derived_items, deriveds_items, step_items, steps_items, expr_items}
-use Rattle.bqn_parse.proofs.FoundTerms.{run, puts-append, run-append, Gives, Aims, gives-append, aims-append, stands_given, part_given, part_aims, arrow_gives}
+use Rattle.bqn_syntax.specs.Plain.{Pattern, Name, Skip, Expr, Value, Train, Modifier, Use, One, Two, Part, Leaf, Elements, Strand, Nothing, Step, Apply, Assign, Modify, Derived, derived, none, some, Uses, no_uses, and_uses, Steps, no_steps, and_steps, Deriveds, no_deriveds, and_deriveds}
+use Rattle.bqn_syntax.specs.Well.{WellExpr, WellPart, WellSteps, WellStep, WellDerived, WellDeriveds, WellUses, WellUse, WellPattern, UsesFit, IsFunction, MayStandBeforeArrow, LastOperand, EndsInNoList}
+use Rattle.bqn_parse.proofs.TreeItems.{part_item, pattern_items, target_items, part_items, use_items, uses_items, derived_items, deriveds_items, step_items, steps_items, expr_items}
+use Rattle.bqn_parse.proofs.FoundTerms.{run, Gives, Aims, gives-append, aims-append, stands_given, part_given, part_aims, arrow_gives}
 use Rattle.bqn_parse.proofs.FoundPatterns.{pattern_term, pattern_aims}
 
 -- The terms of units.

@@ -1,5 +1,5 @@
 -- The terms that the items of a tree's parts are read as.
-use Rattle.std.proofs.Common.{◌≡◌, ℕ, Bool, true, false, List, [], ◌∷◌, ◌++◌, Option, Some, None, refl, sym, ap, ◌∙◌, subst, append_assoc}
+use Rattle.std.proofs.Common.{◌≡◌, Bool, true, List, [], ◌∷◌, ◌++◌, Option, Some, None, refl, sym, ap, ◌∙◌, subst, append_assoc}
 use Rattle.std.proofs.lemmas.List.{append-nil}
 use Rattle.std.specs.Option.{option_map, option_and_then}
 use Rattle.bqn_syntax.specs.declared.token.Kind.{Kind}
@@ -9,10 +9,10 @@ use Rattle.bqn_syntax.specs.declared.tree.Arrow.{Arrow}
 use Rattle.bqn_syntax.specs.declared.sort.Tag.{Tag}
 use Rattle.bqn_syntax.specs.declared.sort.Tag.TheVariants as tag
 use Rattle.bqn_syntax.specs.Sorts.{tag as tag_of, same_tag, kind_tag, role_tag, last_tag, is_name, is_word}
-use Rattle.bqn_syntax.specs.Items.{Element, OfPart, OfList, Item, Standing, Drawn, Joining, Selecting, both, each, leaf_pattern, element_pattern, Term, Operand, Target, Draw, element_part, plain_term, aimed_term, Reading, Between, At, Joined, Selected, Terms, reads, plain_terms, aimed_terms, with_name, selected, stand, select_of, put, puts, finished}
-use Rattle.bqn_syntax.specs.Plain.{Pattern, Name, Skip, Literal, ListPattern, StrandPattern, Patterns, no_patterns, and_patterns, patterns, Part, Leaf, Elements, Merge, Paren, Block, Field, Strand, Nothing, Parts, no_parts, and_parts, parts}
-use Rattle.bqn_syntax.specs.Well.{WellPart, WellParts, WellPattern, WellPatterns, WellJoined, AreTwo, AreTwoParts, IsNoStrand, IsLiteral, IsBase, IsElement, NamesFit, EndsInNoList}
-use Rattle.bqn_parse.proofs.TreeItems.{part_item, pattern_items, joined_items, joined_more_items, name_items, part_items, parts_items, parts_more_items}
+use Rattle.bqn_syntax.specs.Items.{Element, OfPart, Item, Standing, Drawn, Selecting, both, each, Term, Operand, Draw, element_part, plain_term, aimed_term, Reading, Between, At, Joined, Selected, Terms, reads, plain_terms, aimed_terms, with_name, selected, stand, select_of, put, puts, finished}
+use Rattle.bqn_syntax.specs.Plain.{Part, Leaf, Elements, Merge, Paren, Block, Field, Strand, Nothing, Parts, no_parts, and_parts, parts}
+use Rattle.bqn_syntax.specs.Well.{WellPart, WellParts, AreTwoParts, IsBase, IsElement, NamesFit, EndsInNoList}
+use Rattle.bqn_parse.proofs.TreeItems.{part_item, name_items, part_items, parts_items, parts_more_items}
 
 -- Sequences of items.
 
