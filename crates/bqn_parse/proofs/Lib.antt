@@ -1,4 +1,10 @@
 pub mod TreeItems
+pub mod FoundTerms
+pub mod FoundPatterns
+pub mod FoundSteps
+pub mod FoundUnits
+pub mod FoundExpressions
+pub mod FoundPieces
 pub mod WalkedLooks
 pub mod WalkedArrows
 pub mod WalkedSteps
