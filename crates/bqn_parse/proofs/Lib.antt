@@ -1,1 +1,4 @@
+pub mod OnlyElements
+pub mod OnlyPatterns
+pub mod OnlyTerms
 pub mod TreeItems
