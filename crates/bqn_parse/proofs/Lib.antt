@@ -1,4 +1,5 @@
 pub mod OnlyElements
 pub mod OnlyPatterns
 pub mod OnlyTerms
+pub mod OnlyUnits
 pub mod TreeItems
