@@ -1,6 +1,8 @@
 pub mod OnlyDepths
 pub mod OnlyElements
+pub mod OnlyExpressions
 pub mod OnlyPatterns
+pub mod OnlyPieces
 pub mod OnlySteps
 pub mod OnlyTerms
 pub mod OnlyUnits
