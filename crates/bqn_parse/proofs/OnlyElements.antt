@@ -1,13 +1,13 @@
 -- Elements that are joined, and what they are: a pattern, or a term.
-use Rattle.std.proofs.Common.{◌≡◌, ℕ, Bool, true, false, List, [], ◌∷◌, ◌++◌, Option, Some, None, refl, sym, ap, ◌∙◌, subst, append_assoc, append-nil}
+use Rattle.std.proofs.Common.{◌≡◌, Bool, true, false, List, [], ◌∷◌, ◌++◌, Option, Some, None, refl, sym, ap, ◌∙◌, subst, append_assoc, append-nil}
 use Rattle.std.specs.Option.{option_map, option_and_then}
 use Rattle.bqn_syntax.specs.declared.token.Kind.{Kind}
 use Rattle.bqn_syntax.specs.declared.token.Kind.TheVariants as kind
 use Rattle.bqn_syntax.specs.declared.token.Token.{Token}
 use Rattle.bqn_syntax.specs.Sorts.{is_word}
-use Rattle.bqn_syntax.specs.Items.{Element, OfPart, OfList, Item, Standing, Drawn, Joining, Selecting, Wrong, both, each, leaf_pattern, element_pattern, group_pattern, Term, Operand, Target, Draw, element_part, plain_term, aimed_term}
-use Rattle.bqn_syntax.specs.Well.{WellPart, WellParts, WellPattern, WellPatterns, WellJoined, IsNoStrand, IsLiteral, AreTwo, AreTwoParts, IsElement, EndsInNoList}
-use Rattle.bqn_syntax.specs.Plain.{Pattern, Name, Skip, Literal, ListPattern, StrandPattern, Patterns, no_patterns, and_patterns, patterns, Part, Leaf, Elements, Merge, Paren, Block, Field, Strand, Nothing, Parts, no_parts, and_parts, parts}
+use Rattle.bqn_syntax.specs.Items.{Element, OfPart, OfList, Item, Standing, Joining, both, each, leaf_pattern, element_pattern, element_part}
+use Rattle.bqn_syntax.specs.Well.{WellPart, WellParts, WellPattern, WellJoined, IsNoStrand, IsLiteral, AreTwo, AreTwoParts, IsElement}
+use Rattle.bqn_syntax.specs.Plain.{Pattern, Name, Skip, Literal, ListPattern, StrandPattern, patterns, Part, Leaf, Field, Strand, Nothing, parts}
 use Rattle.bqn_parse.proofs.TreeItems.{part_item, part_items, parts_items, parts_more_items, pattern_items, joined_items, joined_more_items, IsOne, IsList, GoodElement}
 
 pub map_some : {A B : Type 0} (f : A → B) (o : Option A) (y : B) → option_map f o ≡ Some y → (x : A) × (o ≡ Some x) × (f x ≡ y)

@@ -1,10 +1,10 @@
 -- A pattern is read from what spells it alone.
-use Rattle.std.proofs.Common.{◌≡◌, Bool, true, false, List, [], ◌∷◌, ◌++◌, Option, Some, None, refl, sym, ap, ◌∙◌, subst, append_assoc, append-nil}
-use Rattle.std.specs.Option.{option_map, option_and_then}
-use Rattle.bqn_syntax.specs.Items.{Element, OfPart, OfList, Item, Standing, Drawn, Joining, Selecting, Wrong, each, element_pattern, group_pattern, onto_first, groups, only_group, piece_pattern}
+use Rattle.std.proofs.Common.{◌≡◌, Bool, List, [], ◌∷◌, ◌++◌, Option, Some, None, refl, sym, ap, ◌∙◌, subst, append-nil}
+use Rattle.std.specs.Option.{option_map}
+use Rattle.bqn_syntax.specs.Items.{Element, Item, Standing, Joining, each, element_pattern, group_pattern, onto_first, groups, only_group, piece_pattern}
 use Rattle.bqn_syntax.specs.Well.{WellPattern}
 use Rattle.bqn_syntax.specs.Plain.{Pattern, StrandPattern, patterns}
-use Rattle.bqn_parse.proofs.TreeItems.{pattern_items, GoodItem, GoodItems}
+use Rattle.bqn_parse.proofs.TreeItems.{pattern_items, GoodItems}
 use Rattle.bqn_parse.proofs.OnlyElements.{map_some, and_then_some, element_items, more_elements, elements_items, Good, Goods, element_good, element_one, pattern_is, patterns_are, each_two, two_patterns}
 
 pub record ReadPattern (literals : Bool) (items : List Item) (q : Pattern) : Type 0 where
@@ -38,9 +38,9 @@ onto_grouped b x items (Some (h ∷ hs)) gs g one k e =
     let q : (x ∷ h) ∷ hs ≡ gs = cc in
     let r = k (h ∷ hs) refl in
     let w : (element_items x ++ more_elements h) ++ groups_items hs ≡ Standing x ∷ Joining ∷ items =
-      ap (λ (l : List Item). (element_items x ++ l) ++ groups_items hs) (some_more h r.good.0)
-      ∙ ap (λ (l : List Item). (l ++ Joining ∷ elements_items h) ++ groups_items hs) one
-      ∙ ap (λ (l : List Item). Standing x ∷ Joining ∷ l) r.written in
+    ap (λ (l : List Item). (element_items x ++ l) ++ groups_items hs) (some_more h r.good.0)
+    ∙ ap (λ (l : List Item). (l ++ Joining ∷ elements_items h) ++ groups_items hs) one
+    ∙ ap (λ (l : List Item). Standing x ∷ Joining ∷ l) r.written in
     subst (λ (l : List (List Element)). Grouped b (Standing x ∷ Joining ∷ items) l) q (record { written = w; good = (tt, (g, r.good.1), r.good.2) })
 
 alone_grouped : (b : Bool) (x : Element) (items : List Item) (o : Option (List (List Element))) (gs : List (List Element)) → Good b x → element_items x ≡ Standing x ∷ [] → ((hs : List (List Element)) → o ≡ Some hs → Grouped b items hs) → option_map (λ (hs : List (List Element)). (x ∷ []) ∷ hs) o ≡ Some gs → Grouped b (Standing x ∷ items) gs
@@ -49,8 +49,8 @@ alone_grouped b x items (Some hs) gs g one k e =
     let q : (x ∷ []) ∷ hs ≡ gs = cc in
     let r = k hs refl in
     let w : (element_items x ++ []) ++ groups_items hs ≡ Standing x ∷ items =
-      ap (λ (l : List Item). (l ++ []) ++ groups_items hs) one
-      ∙ ap (λ (l : List Item). Standing x ∷ l) r.written in
+    ap (λ (l : List Item). (l ++ []) ++ groups_items hs) one
+    ∙ ap (λ (l : List Item). Standing x ∷ l) r.written in
     subst (λ (l : List (List Element)). Grouped b (Standing x ∷ items) l) q (record { written = w; good = (tt, (g, tt), r.good) })
 
 grouped : (b : Bool) (items : List Item) (gs : List (List Element)) → GoodItems b items → groups items ≡ Some gs → Grouped b items gs

@@ -1,12 +1,12 @@
 -- What is read of a piece is spelled by its items alone, and is well.
-use Rattle.std.proofs.Common.{◌≡◌, ◌≤◌, ℕ, Bool, true, false, List, [], ◌∷◌, ◌++◌, Option, Some, None, refl, sym, ap, ◌∙◌, subst, append-nil}
+use Rattle.std.proofs.Common.{◌≡◌, ◌≤◌, ℕ, true, false, List, [], ◌∷◌, ◌++◌, Some, refl, sym, ap, ◌∙◌, subst}
 use Rattle.std.specs.Option.{option_map, option_and_then}
 use Rattle.bqn_syntax.specs.declared.tree.Arrow.TheVariants as arrow
 use Rattle.bqn_syntax.specs.Classes.{is_predicate}
 use Rattle.bqn_syntax.specs.Items.{Item, Drawn, terms_of}
-use Rattle.bqn_syntax.specs.Units.{Unit', Subject, Function, Absent, Alone, Arrow', Aim, units_of}
+use Rattle.bqn_syntax.specs.Units.{Unit', Absent, Arrow', Aim, units_of}
 use Rattle.bqn_syntax.specs.Expressions.{expression, single, exported_part, exported, statement, predicate, units_in, piece_expression, piece_statement, piece_predicate}
-use Rattle.bqn_syntax.specs.Well.{WellExpr, WellStmt, WellPattern, WellPart, stmt_depth}
+use Rattle.bqn_syntax.specs.Well.{WellStmt, WellPattern, stmt_depth}
 use Rattle.bqn_syntax.specs.Plain.{Pattern, Skip, Expr, Value, Train, Modifier, Part, Leaf, Nothing, Stmt, Eval, Predicate, Export}
 use Rattle.bqn_parse.proofs.TreeItems.{part_item, part_items, pattern_items, expr_items, GoodItems, ItemDepths}
 use Rattle.bqn_parse.proofs.OnlyElements.{map_some, and_then_some, PatternOf, leaf_is}
@@ -77,7 +77,8 @@ export_read u s w h =
     subst (λ (x : Stmt). Plain (unit_items u ++ Drawn arrow.Export ∷ []) x) m.2 (record {
       read = record { written = ap (λ (l : List Item). l ++ Drawn arrow.Export ∷ []) k.written; well = k.well };
       plain = refl;
-      well = k.well })
+      well = k.well;
+    })
 
 eval_read : (units : List Unit') (s : Stmt) → WellUnits units → option_map (λ (e : Expr). Eval e) (expression units) ≡ Some s → Plain (units_items units) s
 eval_read units s w h =

@@ -1,6 +1,6 @@
 -- The steps of a value and the targets of an operation are read from what spells them alone.
 use Rattle.std.proofs.Common.{◌≡◌, Bool, true, false, List, [], ◌∷◌, ◌++◌, Option, Some, None, refl, sym, ap, ◌∙◌, subst, append_assoc, append-nil}
-use Rattle.std.specs.Option.{option_map, option_and_then}
+use Rattle.std.specs.Option.{option_and_then}
 use Rattle.bqn_syntax.specs.declared.token.Kind.{Kind}
 use Rattle.bqn_syntax.specs.declared.token.Kind.TheVariants as kind
 use Rattle.bqn_syntax.specs.declared.token.Token.{Token}
@@ -12,7 +12,7 @@ use Rattle.bqn_syntax.specs.Sorts.{tag as tag_of, named, token_named, is_name, i
 use Rattle.bqn_syntax.specs.Items.{Item, Drawn}
 use Rattle.bqn_syntax.specs.Units.{Unit', Subject, Function, Absent, Alone, Arrow', Aim}
 use Rattle.bqn_syntax.specs.Expressions.{more, assigned, changed, steps_of, single, targets}
-use Rattle.bqn_syntax.specs.Well.{WellPart, WellPattern, WellSteps, WellStep, IsLeft, IsLast, IsTarget, BeginsWithChange, TargetsFit}
+use Rattle.bqn_syntax.specs.Well.{WellPart, WellSteps, IsLeft, IsLast, IsTarget, BeginsWithChange, TargetsFit}
 use Rattle.bqn_syntax.specs.Plain.{Pattern, Name, Skip, Literal, ListPattern, StrandPattern, Part, Leaf, Derived, derived, no_uses, and_uses, some, none, Step, Apply, Assign, Modify, Steps, no_steps, and_steps}
 use Rattle.bqn_parse.proofs.TreeItems.{part_item, part_items, pattern_items, derived_items, steps_items, target_items}
 use Rattle.bqn_parse.proofs.OnlyElements.{map_some, and_then_some}
@@ -59,7 +59,7 @@ three a b c d e f p q = two a b c d (e ++ f) p q ∙ sym (append_assoc (b ++ d) 
 with_left : (f : Derived) (x : Part) (units : List Unit') (rest ss : Steps) → WellUnit (Function f) → IsLeft (tag_of x) → WellPart x → ReadSteps units rest → and_steps (Apply f (some x)) rest ≡ ss → (steps_items ss ≡ (units_items units ++ part_items x) ++ derived_items f) × WellSteps ss
 with_left f x units rest ss w i v r e =
     subst (λ (l : Steps). (steps_items l ≡ (units_items units ++ part_items x) ++ derived_items f) × WellSteps l) e
-      (two (steps_items rest) (units_items units) (part_items x) (part_items x) (derived_items f) r.written refl, ((w.0, w.1, i, v), r.well))
+    (two (steps_items rest) (units_items units) (part_items x) (part_items x) (derived_items f) r.written refl, ((w.0, w.1, i, v), r.well))
 
 is_left : (x : Part) (t : Tag) → IsLeft t → tag_of x ≡ t → IsLeft (tag_of x)
 is_left x t i e = subst IsLeft (sym e) i

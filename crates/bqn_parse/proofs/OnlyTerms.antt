@@ -1,6 +1,6 @@
 -- The terms of a piece are what its items spell.
-use Rattle.std.proofs.Common.{◌≡◌, Bool, true, false, List, [], ◌∷◌, ◌++◌, Option, Some, None, refl, sym, ap, ◌∙◌, subst, append_assoc, append-nil}
-use Rattle.std.specs.Option.{option_map, option_and_then}
+use Rattle.std.proofs.Common.{◌≡◌, Bool, true, false, List, [], ◌∷◌, ◌++◌, Some, refl, sym, ap, ◌∙◌, subst, append_assoc, append-nil}
+use Rattle.std.specs.Option.{option_map}
 use Rattle.bqn_base.specs.declared.role.Role.TheVariants as role
 use Rattle.bqn_syntax.specs.declared.token.Kind.{Kind}
 use Rattle.bqn_syntax.specs.declared.token.Kind.TheVariants as kind
@@ -11,7 +11,7 @@ use Rattle.bqn_syntax.specs.declared.sort.Tag.TheVariants as tag
 use Rattle.bqn_syntax.specs.Sorts.{tag as tag_of, kind_tag, last_tag, same_tag, is_word, is_name}
 use Rattle.bqn_syntax.specs.Items.{Element, OfPart, OfList, Item, Standing, Drawn, Joining, Selecting, Wrong, each, element_part, element_pattern, Term, Operand, Target, Draw, plain_term, aimed_term, Reading, Between, At, Joined, Selected, Terms, reads, plain_terms, aimed_terms, with_name, selected, stand, join, select_of, select, put, puts, finished, terms_of}
 use Rattle.bqn_syntax.specs.Well.{WellPart, WellPattern, NamesFit, EndsInNoList}
-use Rattle.bqn_syntax.specs.Plain.{Pattern, Name, Skip, Literal, ListPattern, StrandPattern, patterns, Part, Leaf, Elements, Merge, Paren, Block, Field, Strand, Nothing, parts}
+use Rattle.bqn_syntax.specs.Plain.{Pattern, Name, Skip, Literal, ListPattern, StrandPattern, patterns, Part, Leaf, Elements, Field, Strand, parts}
 use Rattle.bqn_parse.proofs.TreeItems.{part_item, part_items, name_items, pattern_items, IsList, GoodElement, GoodItem, GoodItems}
 use Rattle.bqn_parse.proofs.OnlyElements.{map_some, and_then_some, element_items, joins, joins_last, GoodPart, Good, Goods, goods_last, element_good, element_one, elements_are, patterns_are, each_joined, two_parts, two_patterns}
 
@@ -169,7 +169,8 @@ added : (terms : List Term) (reading : Reading) (items : List Item) (t : Term) �
 added terms reading items t k h = record {
   written = terms_last terms t ∙ ap (λ (l : List Item). terms_items terms ++ l) h.written ∙ k.written;
   good = good_last terms t k.good h.good;
-  fit = fit_last terms t (λ d. absurd (h.plain d)) k.fit }
+  fit = fit_last terms t (λ d. absurd (h.plain d)) k.fit;
+}
 
 same_terms : (terms all : List Term) (items : List Item) → Taken terms Between items → terms ≡ all → TermsRead items all
 same_terms terms all items k q = subst (λ (l : List Term). TermsRead items l) q (record { written = sym (append-nil (terms_items terms)) ∙ k.written; good = k.good; fit = k.fit })
@@ -203,14 +204,16 @@ begun terms items y k g = record {
   written = ap (λ (l : List Item). terms_items terms ++ l) (element_one false y g) ∙ ap (λ (l : List Item). l ++ Standing y ∷ []) k.written;
   good = k.good;
   fit = k.fit;
-  now = (tt, element_good false y g) }
+  now = (tt, element_good false y g);
+}
 
 joined_on : (terms : List Term) (items : List Item) (ys : List Element) (y : Element) → Taken terms (Joined ys) items → GoodElement false y → Taken terms (At ys y) (items ++ Standing y ∷ [])
 joined_on terms items ys y k g = record {
   written = sym (append_assoc (terms_items terms) (joins ys) (element_items y)) ∙ ap (λ (l : List Item). l ++ element_items y) k.written ∙ ap (λ (l : List Item). items ++ l) (element_one false y g);
   good = k.good;
   fit = k.fit;
-  now = (k.now, element_good false y g) }
+  now = (k.now, element_good false y g);
+}
 
 names_items_last : (ts : List Token) (t : Token) → name_items (ts ++ t ∷ []) ≡ name_items ts ++ Selecting ∷ part_item (Leaf t) ∷ []
 names_items_last [] t = refl
@@ -245,7 +248,8 @@ field_on terms items ys x t k w = record {
   written = ap (λ (l : List Item). terms_items terms ++ (joins ys ++ l)) (with_name_items x t) ∙ four (terms_items terms) (joins ys) (part_items x) Selecting (part_item (Leaf t)) ∙ ap (λ (l : List Item). l ++ part_item (Leaf t) ∷ []) k.written;
   good = k.good;
   fit = k.fit;
-  now = (k.now.0, with_name_good x t k.now.1 k.now.2 w) }
+  now = (k.now.0, with_name_good x t k.now.1 k.now.2 w);
+}
 
 selected_on : (b : Bool) (terms : List Term) (items : List Item) (ys : List Element) (x : Part) (t : Token) (so : Terms) → is_word t.kind ≡ b → Taken terms (Selected ys x) items → selected b terms ys x t ≡ Some so → Took so (items ++ part_item (Leaf t) ∷ [])
 selected_on false terms items ys x t so w k e = absurd (cc)
@@ -280,7 +284,8 @@ join_taken terms (At ys x) items so k e =
       written = ap (λ (l : List Item). terms_items terms ++ l) (joins_more ys x) ∙ behind (terms_items terms) (joins ys) (element_items x) Joining ∙ ap (λ (l : List Item). l ++ Joining ∷ []) k.written;
       good = k.good;
       fit = k.fit;
-      now = goods_last false ys x k.now.0 k.now.1 })
+      now = goods_last false ys x k.now.0 k.now.1;
+    })
 join_taken terms _ items so k e = absurd (cc)
 
 same_subject : (t : Tag) → same_tag tag.Subject t ≡ true → t ≡ tag.Subject
@@ -295,7 +300,8 @@ select_on true terms items ys x so w k e =
       written = behind (terms_items terms) (joins ys) (part_items x) Selecting ∙ ap (λ (l : List Item). l ++ Selecting ∷ []) k.written;
       good = k.good;
       fit = k.fit;
-      now = (k.now.0, k.now.1, same_subject (tag_of x) w) })
+      now = (k.now.0, k.now.1, same_subject (tag_of x) w);
+    })
 
 select_taken : (terms : List Term) (reading : Reading) (items : List Item) (so : Terms) → Taken terms reading items → select terms reading ≡ Some so → Took so (items ++ Selecting ∷ [])
 select_taken terms (At ys (OfPart x)) items so k e = select_on (same_tag tag.Subject (tag_of x)) terms items ys x so refl k e
@@ -309,7 +315,8 @@ draw_taken terms reading items a so k e =
       written = append-nil (terms_items (m.0 ++ Draw a ∷ [])) ∙ terms_last m.0 (Draw a) ∙ ap (λ (l : List Item). l ++ Drawn a ∷ []) r.read.written;
       good = good_last m.0 (Draw a) r.read.good tt;
       fit = fit_last m.0 (Draw a) (λ d. r.ends) r.read.fit;
-      now = ends_last m.0 (Draw a) tt })
+      now = ends_last m.0 (Draw a) tt;
+    })
 
 put_taken : (so : Terms) (items : List Item) (i : Item) (next : Terms) → Took so items → GoodItem false i → put so i ≡ Some next → Took next (items ++ i ∷ [])
 put_taken so items (Standing y) next k g e = stand_taken so.terms so.reading items y next k g e

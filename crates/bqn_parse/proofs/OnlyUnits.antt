@@ -1,14 +1,12 @@
 -- The units of a piece are what its terms spell, and they are well.
-use Rattle.std.proofs.Common.{◌≡◌, Bool, true, false, List, [], ◌∷◌, ◌++◌, Option, Some, None, refl, sym, ap, ◌∙◌, subst, append_assoc, append-nil}
-use Rattle.std.specs.Option.{option_map, option_and_then}
-use Rattle.bqn_syntax.specs.declared.tree.Arrow.{Arrow}
+use Rattle.std.proofs.Common.{◌≡◌, false, List, [], ◌∷◌, ◌++◌, Some, refl, sym, ap, ◌∙◌, subst, append_assoc, append-nil}
 use Rattle.bqn_syntax.specs.declared.sort.Tag.{Tag}
 use Rattle.bqn_syntax.specs.declared.sort.Tag.TheVariants as tag
 use Rattle.bqn_syntax.specs.Sorts.{tag as tag_of}
 use Rattle.bqn_syntax.specs.Items.{Item, Drawn, Term, Operand, Target, Draw}
 use Rattle.bqn_syntax.specs.Units.{Unit', Subject, Function, Absent, Alone, Arrow', Aim, Binding, Free, Bound, Wanting, Row, row, alone, unit_of, closed, operand, modified, modified_twice, beside, bind_part, bind, binds, bound, units_of}
-use Rattle.bqn_syntax.specs.Well.{WellPart, WellPattern, WellUses, WellUse, WellDerived, IsOperand, IsModifier, IsFunction, UseFits, UsesFit, EndsInNoList, LastOperand, MayStandBeforeArrow}
-use Rattle.bqn_syntax.specs.Plain.{Pattern, Part, Use, One, Two, Derived, derived, Uses, no_uses, and_uses, uses}
+use Rattle.bqn_syntax.specs.Well.{WellPart, WellPattern, WellUses, WellUse, WellDerived, IsOperand, IsModifier, IsFunction, UseFits, UsesFit, LastOperand, MayStandBeforeArrow}
+use Rattle.bqn_syntax.specs.Plain.{Part, Use, One, Two, no_uses, and_uses, uses}
 use Rattle.bqn_parse.proofs.TreeItems.{part_items, pattern_items, use_items, uses_items, derived_items}
 use Rattle.bqn_parse.proofs.OnlyElements.{map_some, and_then_some}
 use Rattle.bqn_parse.proofs.OnlyTerms.{term_items, terms_items, IsAim, GoodTerm, GoodTerms, FollowedBy, TermsFit, TermsRead}
@@ -153,7 +151,8 @@ beside_taken u units binding items before ts next w f p k e =
       written = append-nil (units_items m.0 ++ unit_items u) ∙ ap (λ (l : List Item). l ++ unit_items u) c.read.written;
       well = (w, f m.0 c.head, c.read.well);
       now = tt;
-      ready = always ts (u ∷ m.0) Free p })
+      ready = always ts (u ∷ m.0) Free p;
+    })
 
 -- Uses.
 
@@ -185,7 +184,8 @@ first_bound units items x ts k o w = record {
   written = ap (λ (l : List Item). units_items units ++ l) (append-nil (part_items x)) ∙ ap (λ (l : List Item). l ++ part_items x) k.written;
   well = k.well;
   now = record { operand = o; part = w; fit = tt; well = tt };
-  ready = always ts units (Bound x []) tt }
+  ready = always ts units (Bound x []) tt;
+}
 
 behind : (a b c d e : List Item) → a ++ (b ++ (c ++ (d ++ e))) ≡ (a ++ (b ++ (c ++ d))) ++ e
 behind a b c d e = simp append_assoc
@@ -203,7 +203,8 @@ operand_taken units (Wanting y us m) items x before ts o w f k = record {
   written = ap (λ (l : List Item). units_items units ++ (part_items y ++ l)) (uses_last us (Two m x)) ∙ behind (units_items units) (part_items y) (uses_items (uses us)) (part_items m) (part_items x) ∙ ap (λ (l : List Item). l ++ part_items x) k.written;
   well = k.well;
   now = bound_last y us (Two m x) k.now.0 (k.now.1, o) (k.now.2, w);
-  ready = ready_two x ts f units y us m }
+  ready = ready_two x ts f units y us m;
+}
 
 is_modifier : (m : Part) (t : Tag) → IsModifier t → tag_of m ≡ t → IsModifier (tag_of m)
 is_modifier m t i e = subst IsModifier (sym e) i
@@ -215,7 +216,8 @@ alone_taken units items m before ts i w k =
       written = append-nil (units_items units ++ part_items m) ∙ ap (λ (l : List Item). l ++ part_items m) r.written;
       well = ((i, w), tt, r.well);
       now = tt;
-      ready = always ts (Alone m ∷ units) Free tt }
+      ready = always ts (Alone m ∷ units) Free tt;
+    }
 
 with_one : (a b c d : List Item) → a ++ (b ++ (c ++ d)) ≡ (a ++ (b ++ c)) ++ d
 with_one a b c d = simp append_assoc
@@ -230,7 +232,8 @@ modified_taken units (Bound y us) items m before ts next t w k e =
       written = ap (λ (l : List Item). units_items units ++ (part_items y ++ l)) (uses_last us (One m)) ∙ with_one (units_items units) (part_items y) (uses_items (uses us)) (part_items m) ∙ ap (λ (l : List Item). l ++ part_items m) k.written;
       well = k.well;
       now = bound_last y us (One m) k.now t w;
-      ready = always ts units (Bound y (us ++ One m ∷ [])) (last_is us (One m) tt) })
+      ready = always ts units (Bound y (us ++ One m ∷ [])) (last_is us (One m) tt);
+    })
 modified_taken units (Wanting y us n) items m before ts next t w k e = absurd (cc)
 
 modified_twice_taken : (units : List Unit') (binding : Binding) (items : List Item) (m : Part) (before ts : List Term) (next : Row) → tag_of m ≡ tag.Mod2 → WellPart m → Taken units binding items before → modified_twice units binding m ≡ Some next → Took next (items ++ part_items m) ts
@@ -243,7 +246,8 @@ modified_twice_taken units (Bound y us) items m before ts next t w k e =
       written = with_one (units_items units) (part_items y) (uses_items (uses us)) (part_items m) ∙ ap (λ (l : List Item). l ++ part_items m) k.written;
       well = k.well;
       now = (k.now, t, w);
-      ready = always ts units (Wanting y us m) tt })
+      ready = always ts units (Wanting y us m) tt;
+    })
 modified_twice_taken units (Wanting y us n) items m before ts next t w k e = absurd (cc)
 
 is_operand : (x : Part) (t : Tag) → IsOperand t → tag_of x ≡ t → IsOperand (tag_of x)
