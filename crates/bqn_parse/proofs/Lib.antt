@@ -1,3 +1,11 @@
+pub mod OnlyDepths
+pub mod OnlyElements
+pub mod OnlyExpressions
+pub mod OnlyPatterns
+pub mod OnlyPieces
+pub mod OnlySteps
+pub mod OnlyTerms
+pub mod OnlyUnits
 pub mod TreeItems
 pub mod FoundTerms
 pub mod FoundPatterns
