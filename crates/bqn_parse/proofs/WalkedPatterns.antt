@@ -16,14 +16,18 @@ use Rattle.bqn_syntax.specs.Sorts.{sort_of, punct_sort}
 use Rattle.bqn_syntax.specs.Looks.{Ahead, Looks, looks_of, look, first_of, behind_group}
 use Rattle.bqn_syntax.specs.Items.{Element, OfPart, OfList, Item, Standing, Drawn, Joining, piece_pattern}
 use Rattle.bqn_syntax.specs.Expressions.{piece_expression, piece_statement, piece_predicate}
-use Rattle.bqn_syntax.specs.Parsing.{Level, Levels, levels, fresh, or_first, and_item, and_target, well, judged, no_piece, ended_by, ended, list_inside, is_first_piece, inside_of, closes, whole, walk}
-use Rattle.bqn_syntax.specs.Spells.{Sign, Exact, Mark, Apart, Gap, Fits, exact, mark, apart, one_more, no_more, arrow_code, mark_at, pattern_signs, listed_signs, listed_more, joined_signs, joined_more}
-use Rattle.bqn_syntax.specs.Well.{WellPattern, WellPatterns, WellJoined, IsValue, WellExpr, pattern_depth, patterns_depth}
-use Rattle.bqn_syntax.specs.Plain.{Pattern, Name, Skip, Literal, ListPattern, StrandPattern, Patterns, no_patterns, and_patterns, patterns, Expr, Leaf, Nothing, Stmt, Eval, Predicate, Export}
+use Rattle.bqn_syntax.specs.Parsing.{Level, Levels, levels, fresh, or_first, and_item, and_header, and_target, well, judged, no_piece, ended_by, ended, list_inside, is_first_piece, inside_of, closes, whole, walk}
+use Rattle.bqn_syntax.specs.Spells.{Sign, Exact, Mark, Apart, Gap, Fits, exact, mark, apart, one_more, no_more, arrow_code, mark_at, header_signs, pattern_signs, listed_signs, listed_more, joined_signs, joined_more}
+use Rattle.bqn_syntax.specs.Well.{WellPattern, WellPatterns, WellJoined, WellHeader, IsValue, WellExpr, header_depth, pattern_depth, patterns_depth}
+use Rattle.bqn_syntax.specs.Plain.{Pattern, Name, Skip, Literal, ListPattern, StrandPattern, Patterns, no_patterns, and_patterns, patterns, Header, Expr, Leaf, Nothing, BodyTree, Stmt, Eval, Predicate, Export}
 use Rattle.bqn_parse.proofs.TreeItems.{part_item, pattern_items, joined_items, joined_more_items, expr_items}
 use Rattle.bqn_parse.proofs.WalkedLooks.{arrow_ahead, colon_ahead, exact_is, mark_is, mark_sort, word_stands, literal_stands, behind_opening, list_crosses, crosses_gap, pattern_passes, joined_more_passes}
 use Rattle.bqn_parse.proofs.WalkedArrows.{Arrows, Colons, other_arrows, apart_arrows, gap_arrows, joined_arrows}
 use Rattle.bqn_parse.proofs.WalkedSteps.{having, clean, Arrives, nothing_more, and_then, to_items, take_exact, take_mark, Many, gap_walks, Completes, apart_walks, Makes, close_after, close_empty, open_step, group_arrives}
+
+-- where a body of a block begins, behind these bodies
+abbrev pub body_start : Place → List BodyTree → Level
+body_start place so_far = record { inside = inside.Block; opened = place; first = None; items = []; expressions = []; targets = []; header = None; statements = []; done = so_far }
 
 -- what is known of single pieces: a well piece is judged to be itself by its items
 pub record Pieces : Type 0 where
@@ -34,6 +38,8 @@ pub record Pieces : Type 0 where
   pub pattern_found : (literals : Bool) (q : Pattern) → WellPattern literals q → piece_pattern literals (pattern_items q) ≡ Some q
   pub items_are_some : (e : Expr) → WellExpr e → expr_items e ≡ [] → ⊥
   pub pattern_items_are_some : (literals : Bool) (q : Pattern) → WellPattern literals q → pattern_items q ≡ [] → ⊥
+  -- a header, up to what stands behind its `:`
+  pub header_walks : (h : Header) (place : Place) (so_far : List BodyTree) (outer : List Level) (k : List Sign) (ts : List Token) → WellHeader h → length outer + header_depth (Some h) ≤ 128 → Fits (header_signs h (Mark 58 ∷ k)) ts → (rest : List Token) × Fits k rest × (walk (levels (body_start place so_far) outer) ts ≡ walk (levels (clean (and_header h (body_start place so_far))) outer) rest)
 
 -- Colons.
 

@@ -154,7 +154,7 @@ gap_walks l outer k all m (one_more {t = t} {ts = ts} e f) =
 abbrev pub Completes : Level → List Item → Level → Type 0
 Completes l is next = (place : Place) (f : Option (List Token)) → ended place (having (clean l) is f) ≡ Ok next
 
-separator_ends : (l next : Level) (is : List Item) (f : Option (List Token)) (outer : List Level) (t : Token) (rest : List Token) → Many l.inside → Completes l is next → sort_of t.kind ≡ Separates → walk (levels (having (clean l) is f) outer) (t ∷ rest) ≡ walk (levels next outer) rest
+pub separator_ends : (l next : Level) (is : List Item) (f : Option (List Token)) (outer : List Level) (t : Token) (rest : List Token) → Many l.inside → Completes l is next → sort_of t.kind ≡ Separates → walk (levels (having (clean l) is f) outer) (t ∷ rest) ≡ walk (levels next outer) rest
 separator_ends l next is f outer t rest m c e =
     walk_step (levels (having (clean l) is f) outer) (levels next outer) Separates t (t ∷ rest) rest refl e
       (separated_is l.inside (t ∷ rest) t.place (levels (having (clean l) is f) outer) m ∙ ap (λ (r : Result Level Refusal). go_on outer r) (c t.place f))
