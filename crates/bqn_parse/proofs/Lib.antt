@@ -18,3 +18,5 @@ pub mod WalkedArrows
 pub mod WalkedSteps
 pub mod WalkedPatterns
 pub mod WalkedTree
+pub mod SoundSorts
+pub mod WalkedBrackets

@@ -19,11 +19,11 @@ use Rattle.bqn_syntax.specs.Spells.{Sign, Exact, Mark, Apart, Gap, Fits, exact, 
 use Rattle.bqn_syntax.specs.Plain.{Stmts}
 use Rattle.bqn_parse.proofs.WalkedLooks.{exact_is, mark_is, apart_is, mark_sort}
 
-abbrev walked : Result Levels Refusal → List Token → Result Stmts Refusal
+abbrev pub walked : Result Levels Refusal → List Token → Result Stmts Refusal
 walked (Err r) ts = Err r
 walked (Ok next) ts = walk next ts
 
-walk_cons : (so : Levels) (t : Token) (ts : List Token) → walk so (t ∷ ts) ≡ walked (step (sort_of t.kind) (behind_group ts) t (t ∷ ts) so) ts
+pub walk_cons : (so : Levels) (t : Token) (ts : List Token) → walk so (t ∷ ts) ≡ walked (step (sort_of t.kind) (behind_group ts) t (t ∷ ts) so) ts
 walk_cons so t ts = go (step (sort_of t.kind) (behind_group ts) t (t ∷ ts) so)
   where
     go : (r : Result Levels Refusal) → (elim r as (λ _. Result Stmts Refusal) [ Ok next ↦ walk next ts | Err e ↦ Err e ]) ≡ walked r ts
