@@ -5,3 +5,4 @@ pub mod FoundSteps
 pub mod FoundUnits
 pub mod FoundExpressions
 pub mod FoundPieces
+pub mod FoundHeadersItems
