@@ -6,3 +6,4 @@ pub mod FoundUnits
 pub mod FoundExpressions
 pub mod FoundPieces
 pub mod FoundHeadersItems
+pub mod FoundHeaders
