@@ -20,3 +20,5 @@ pub mod WalkedPatterns
 pub mod WalkedTree
 pub mod SoundSorts
 pub mod WalkedBrackets
+pub mod FoundHeadersItems
+pub mod FoundHeaders
