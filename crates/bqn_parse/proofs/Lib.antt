@@ -22,3 +22,4 @@ pub mod SoundSorts
 pub mod WalkedBrackets
 pub mod FoundHeadersItems
 pub mod FoundHeaders
+pub mod WalkedHeaders

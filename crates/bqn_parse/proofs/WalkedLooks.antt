@@ -266,7 +266,7 @@ list_groups b qs k ts w f =
 
 -- Headers.
 
-argument_stands : (is_special : Kind → Bool) → ((j : Kind) → is_special j ≡ true → sort_of j ≡ Stands) → (o : Option Pattern) (k : List Sign) (ts : List Token) → ArgumentFits is_special o → Fits (argument_signs o k) ts → Passes k ts
+pub argument_stands : (is_special : Kind → Bool) → ((j : Kind) → is_special j ≡ true → sort_of j ≡ Stands) → (o : Option Pattern) (k : List Sign) (ts : List Token) → ArgumentFits is_special o → Fits (argument_signs o k) ts → Passes k ts
 argument_stands is_special s None k ts w f = stay f
 argument_stands is_special s (Some q) k ts w f = go q w f
   where
@@ -274,11 +274,11 @@ argument_stands is_special s (Some q) k ts w f = go q w f
     go q (special {t = t} e) f = passes_exact Stands t k ts (s t.kind e) tt f
     go q (pattern o w) f = pattern_passes true q k ts w f
 
-left_stands : (j : Kind) → is_left j ≡ true → sort_of j ≡ Stands
+pub left_stands : (j : Kind) → is_left j ≡ true → sort_of j ≡ Stands
 left_stands (kind.Punct c) e = absurd (cc)
 left_stands _ e = refl
 
-right_stands : (j : Kind) → is_right j ≡ true → sort_of j ≡ Stands
+pub right_stands : (j : Kind) → is_right j ≡ true → sort_of j ≡ Stands
 right_stands (kind.Punct c) e = absurd (cc)
 right_stands _ e = refl
 
@@ -290,7 +290,7 @@ right_operand_stands : (j : Kind) → is_right_operand j ≡ true → sort_of j 
 right_operand_stands (kind.Punct c) e = absurd (cc)
 right_operand_stands _ e = refl
 
-own_stands : (j : Kind) (l r : Option Token) → SelfFits (own_tag j) l r → sort_of j ≡ Stands
+pub own_stands : (j : Kind) (l r : Option Token) → SelfFits (own_tag j) l r → sort_of j ≡ Stands
 own_stands (kind.Punct c) l r w = elim w [ ]
 own_stands (kind.Number z) l r w = refl
 own_stands (kind.Char c) l r w = refl
@@ -331,7 +331,7 @@ self_stands tag.Mod2 l o w = (left_operands_stand l w.0, right_operands_stand o 
 self_stands tag.Subject l o w = elim w [ ]
 self_stands tag.Nothing l o w = elim w [ ]
 
-token_passes : (o : Option Token) (k : List Sign) (ts : List Token) → OperandsStand o → Fits (token_signs o k) ts → Passes k ts
+pub token_passes : (o : Option Token) (k : List Sign) (ts : List Token) → OperandsStand o → Fits (token_signs o k) ts → Passes k ts
 token_passes None k ts w f = stay f
 token_passes (Some t) k ts w f = passes_exact Stands t k ts w tt f
 

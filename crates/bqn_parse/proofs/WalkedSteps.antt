@@ -80,7 +80,7 @@ nothing_more so k ts f = record { rest = ts; first = so.level.first; fits = f; b
     same l = ap (λ (is : List Item). record { inside = l.inside; opened = l.opened; first = l.first; items = is; expressions = l.expressions; targets = l.targets; header = l.header; statements = l.statements; done = l.done }) (all l.items)
 
 -- one after the other
-pub and_then : {so : Levels} {is js : List Item} {a k : List Sign} {ts : List Token} → Arrives so is a ts → ((f : Option (List Token)) (rest : List Token) → Fits a rest → Arrives (levels (having so.level is f) so.outer) js k rest) → Arrives so (is ++ js) k ts
+abbrev pub and_then : {so : Levels} {is js : List Item} {a k : List Sign} {ts : List Token} → Arrives so is a ts → ((f : Option (List Token)) (rest : List Token) → Fits a rest → Arrives (levels (having so.level is f) so.outer) js k rest) → Arrives so (is ++ js) k ts
 and_then {so = so} {is = is} {js = js} {ts = ts} x go =
     let y = go x.first x.rest x.fits in
     record {
@@ -95,7 +95,7 @@ pub to_items : {so : Levels} {is js : List Item} {k : List Sign} {ts : List Toke
 to_items {so = so} {k = k} {ts = ts} e x = subst (λ (l : List Item). Arrives so l k ts) e x
 
 -- one token that is one item
-pub take_one : (so : Levels) (q : Sort) (i : Item) (t : Token) (k : List Sign) (ts rest : List Token) → ts ≡ t ∷ rest → sort_of t.kind ≡ q → ((a : Ahead) → step q a t (t ∷ rest) so ≡ taken i (t ∷ rest) so) → Fits k rest → Arrives so (i ∷ []) k ts
+abbrev pub take_one : (so : Levels) (q : Sort) (i : Item) (t : Token) (k : List Sign) (ts rest : List Token) → ts ≡ t ∷ rest → sort_of t.kind ≡ q → ((a : Ahead) → step q a t (t ∷ rest) so ≡ taken i (t ∷ rest) so) → Fits k rest → Arrives so (i ∷ []) k ts
 take_one so q i t k ts rest is e s f = record {
     rest = rest;
     first = or_first so.level.first ts;
@@ -104,7 +104,7 @@ take_one so q i t k ts rest is e s f = record {
     walks = walk_step so (levels (having so.level (i ∷ []) (or_first so.level.first (t ∷ rest))) so.outer) q t ts rest is e (s (behind_group rest)) ∙ ap (λ (l : List Token). walk (levels (having so.level (i ∷ []) (or_first so.level.first l)) so.outer) rest) (sym is);
   }
 
-pub take_exact : (so : Levels) (q : Sort) (i : Item) (t : Token) (k : List Sign) (ts : List Token) → sort_of t.kind ≡ q → ((a : Ahead) (rest : List Token) → step q a t (t ∷ rest) so ≡ taken i (t ∷ rest) so) → Fits (Exact t ∷ k) ts → Arrives so (i ∷ []) k ts
+abbrev pub take_exact : (so : Levels) (q : Sort) (i : Item) (t : Token) (k : List Sign) (ts : List Token) → sort_of t.kind ≡ q → ((a : Ahead) (rest : List Token) → step q a t (t ∷ rest) so ≡ taken i (t ∷ rest) so) → Fits (Exact t ∷ k) ts → Arrives so (i ∷ []) k ts
 take_exact so q i t k ts e s f = let x = exact_is f in take_one so q i t k ts x.0 x.1 e (λ a. s a x.0) x.2
 
 pub take_mark : (so : Levels) (q : Sort) (i : Item) (c : ℕ) (k : List Sign) (ts : List Token) → punct_sort c ≡ q → ((a : Ahead) (t : Token) (rest : List Token) → step q a t (t ∷ rest) so ≡ taken i (t ∷ rest) so) → Fits (Mark c ∷ k) ts → Arrives so (i ∷ []) k ts
