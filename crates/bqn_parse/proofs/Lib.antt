@@ -23,3 +23,4 @@ pub mod WalkedBrackets
 pub mod FoundHeadersItems
 pub mod FoundHeaders
 pub mod WalkedHeaders
+pub mod Found

@@ -22,10 +22,11 @@ use Rattle.bqn_syntax.specs.Spells.{Sign, Exact, Mark, Apart, Gap, Fits, done, e
 use Rattle.bqn_syntax.specs.Well.{WellPattern, IsArgument, special, pattern, ArgumentFits, SelfFits, WellHeader, header_depth, argument_depth, pattern_depth}
 use Rattle.bqn_syntax.specs.Plain.{Pattern, Name, Skip, Literal, ListPattern, StrandPattern, Patterns, no_patterns, and_patterns, Header, Leaf, BodyTree}
 use Rattle.bqn_parse.proofs.TreeItems.{part_item, pattern_items}
+use Rattle.bqn_parse.proofs.FoundHeaders.{header_found}
 use Rattle.bqn_parse.proofs.WalkedLooks.{Passes, arrow_ahead, colon_ahead, mark_is, mark_sort, passes_exact, token_passes, argument_stands, left_stands, right_stands, own_stands, self_stands, OperandsStand}
 use Rattle.bqn_parse.proofs.WalkedArrows.{Arrows, Colons, exact_arrow_ahead, other_arrows, pattern_arrows}
 use Rattle.bqn_parse.proofs.WalkedSteps.{having, clean, Began, began_twice, or_first_twice, Arrives, nothing_more, and_then, take_exact, walk_step}
-use Rattle.bqn_parse.proofs.WalkedPatterns.{Pieces, body_start, Chooses, heads_colons, pattern_arrives}
+use Rattle.bqn_parse.proofs.WalkedPatterns.{body_start, Chooses, heads_colons, pattern_arrives}
 
 -- Signs in front of others.
 
@@ -142,13 +143,13 @@ head_chooses l h a x y = go l.inside l.header l.statements a.arrow a.colon h.0 h
     go i o s b c e f g x y = rw (e, f, g, x, y) refl
 
 -- an argument: a special name, or a header pattern
-argument_arrives : (pieces : Pieces) (is_special : Kind → Bool) → ((j : Kind) → is_special j ≡ true → sort_of j ≡ Stands) → (o : Option Pattern) (so : Levels) (k : List Sign) (ts : List Token) → ArgumentFits is_special o → AtHead so.level → length so.outer + argument_depth o ≤ 128 → Arrows false k → Colons true k → Fits (argument_signs o k) ts → Arrives so (argument_items o) k ts
-argument_arrives pieces is_special s None so k ts w h d a y f = nothing_more so k ts f
-argument_arrives pieces is_special s (Some q) so k ts w h d a y f = go q w d f
+argument_arrives : (is_special : Kind → Bool) → ((j : Kind) → is_special j ≡ true → sort_of j ≡ Stands) → (o : Option Pattern) (so : Levels) (k : List Sign) (ts : List Token) → ArgumentFits is_special o → AtHead so.level → length so.outer + argument_depth o ≤ 128 → Arrows false k → Colons true k → Fits (argument_signs o k) ts → Arrives so (argument_items o) k ts
+argument_arrives is_special s None so k ts w h d a y f = nothing_more so k ts f
+argument_arrives is_special s (Some q) so k ts w h d a y f = go q w d f
   where
     go : (q : Pattern) → IsArgument is_special q → length so.outer + pattern_depth q ≤ 128 → Fits (pattern_signs q k) ts → Arrives so (pattern_items q) k ts
     go q (special {t = t} e) d f = take_exact so Stands (part_item (Leaf t)) t k ts (s t.kind e) (λ b rest. refl) f
-    go q (pattern o w) d f = pattern_arrives pieces q inside.HeaderPattern false true so k ts w tt (head_chooses so.level h) d a y f
+    go q (pattern o w) d f = pattern_arrives q inside.HeaderPattern false true so k ts w tt (head_chooses so.level h) d a y f
 
 token_arrives : (o : Option Token) (so : Levels) (k : List Sign) (ts : List Token) → OperandsStand o → Fits (token_signs o k) ts → Arrives so (token_items o) k ts
 token_arrives None so k ts w f = nothing_more so k ts f
@@ -205,8 +206,8 @@ takes_arrives {so = so} {ts = ts} x go =
 take_own : (so : Levels) (t : Token) (k : List Sign) (ts : List Token) → sort_of t.kind ≡ Stands → Fits (Exact t ∷ k) ts → Takes so (part_item (Leaf t) ∷ []) k ts
 take_own so t k ts e f = record { arrives = take_exact so Stands (part_item (Leaf t)) t k ts e (λ b rest. refl) f; begins = refl }
 
-header_takes : (pieces : Pieces) (h : Header) (so : Levels) (k : List Sign) (ts : List Token) → WellHeader h → AtHead so.level → length so.outer + header_depth (Some h) ≤ 128 → Arrows false k → Colons true k → Fits (header_signs h k) ts → Takes so (header_items h) k ts
-header_takes pieces h so k ts w at d a y f =
+header_takes : (h : Header) (so : Levels) (k : List Sign) (ts : List Token) → WellHeader h → AtHead so.level → length so.outer + header_depth (Some h) ≤ 128 → Arrows false k → Colons true k → Fits (header_signs h k) ts → Takes so (header_items h) k ts
+header_takes h so k ts w at d a y f =
     let s = self_stands (own_tag h.own.kind) h.left_operand h.right_operand w.self in
     let o = own_stands h.own.kind h.left_operand h.right_operand w.self in
     let k4 = argument_signs h.right k in
@@ -220,11 +221,11 @@ header_takes pieces h so k ts w at d a y f =
     let y2 = exact_colons true h.own k3 o y3 in
     let a1 = token_arrows h.left_operand k2 s.0 a2 in
     let y1 = token_colons true h.left_operand k2 s.0 y2 in
-    arrives_takes (argument_arrives pieces is_left left_stands h.left so k1 ts w.left at (omega (arith, le-max_left (argument_depth h.left) (argument_depth h.right))) a1 y1 f) (λ f1 r1 g1.
+    arrives_takes (argument_arrives is_left left_stands h.left so k1 ts w.left at (omega (arith, le-max_left (argument_depth h.left) (argument_depth h.right))) a1 y1 f) (λ f1 r1 g1.
     arrives_takes (token_arrives h.left_operand (levels (having so.level (argument_items h.left) f1) so.outer) k2 r1 s.0 g1) (λ f2 r2 g2.
     takes_arrives (take_own (levels (having (having so.level (argument_items h.left) f1) (token_items h.left_operand) f2) so.outer) h.own k3 r2 o g2) (λ f3 r3 g3.
     and_then (token_arrives h.right_operand (levels (having (having (having so.level (argument_items h.left) f1) (token_items h.left_operand) f2) (part_item (Leaf h.own) ∷ []) f3) so.outer) k4 r3 s.1 g3) (λ f4 r4 g4.
-    argument_arrives pieces is_right right_stands h.right (levels (having (having (having (having so.level (argument_items h.left) f1) (token_items h.left_operand) f2) (part_item (Leaf h.own) ∷ []) f3) (token_items h.right_operand) f4) so.outer) k r4 w.right at (omega (arith, le-max_right (argument_depth h.left) (argument_depth h.right))) a y g4))))
+    argument_arrives is_right right_stands h.right (levels (having (having (having (having so.level (argument_items h.left) f1) (token_items h.left_operand) f2) (part_item (Leaf h.own) ∷ []) f3) (token_items h.right_operand) f4) so.outer) k r4 w.right at (omega (arith, le-max_right (argument_depth h.left) (argument_depth h.right))) a y g4))))
 
 -- what stands before these tokens
 before_is : (piece rest ts : List Token) → ts ≡ piece ++ rest → before ts rest ≡ piece
@@ -249,15 +250,15 @@ header_items_some h e = go (argument_items h.left) (token_items h.left_operand) 
     go (x ∷ a) b c e = absurd (cc)
 
 -- where each well header is found from its tokens, the walk over them and the `:` behind them gives it
-pub header_is_walked : (pieces : Pieces) → ((h : Header) → WellHeader h → (piece : List Token) → Fits (header_signs h []) piece → header_in piece ≡ Some h) → (h : Header) (place : Place) (so_far : List BodyTree) (outer : List Level) (k : List Sign) (ts : List Token) → WellHeader h → length outer + header_depth (Some h) ≤ 128 → Fits (header_signs h (Mark 58 ∷ k)) ts → (rest : List Token) × Fits k rest × (walk (levels (body_start place so_far) outer) ts ≡ walk (levels (clean (and_header h (body_start place so_far))) outer) rest)
-header_is_walked pieces found h place so_far outer k ts w d f =
+pub header_is_walked : (h : Header) (place : Place) (so_far : List BodyTree) (outer : List Level) (k : List Sign) (ts : List Token) → WellHeader h → length outer + header_depth (Some h) ≤ 128 → Fits (header_signs h (Mark 58 ∷ k)) ts → (rest : List Token) × Fits k rest × (walk (levels (body_start place so_far) outer) ts ≡ walk (levels (clean (and_header h (body_start place so_far))) outer) rest)
+header_is_walked h place so_far outer k ts w d f =
     let l = body_start place so_far in
     let p = fits_split (header_signs h []) (Mark 58 ∷ k) (header_signs h (Mark 58 ∷ k)) ts f (header_append h [] (Mark 58 ∷ k)) in
     let g = subst (λ (x : List Sign). Fits x (p.piece ++ p.rest)) (sym (header_append h [] (exacts p.rest))) (fits_join (header_signs h []) (exacts p.rest) p.piece p.rest p.front (fits_exacts p.rest)) in
     let gs = subst (λ (x : List Token). Fits (header_signs h (exacts p.rest)) x) (sym p.is) g in
     let a : Arrows false (exacts p.rest) = λ rest x. ap arrow_ahead (only_exacts p.rest rest x) ∙ other_arrows Heads 58 k refl tt p.rest p.behind in
     let y : Colons true (exacts p.rest) = λ rest x. ap colon_ahead (only_exacts p.rest rest x) ∙ heads_colons k p.rest p.behind in
-    let t = header_takes pieces h (levels l outer) (exacts p.rest) ts w (refl, refl, refl) d a y gs in
+    let t = header_takes h (levels l outer) (exacts p.rest) ts w (refl, refl, refl) d a y gs in
     let r = only_exacts p.rest t.arrives.rest t.arrives.fits in
     let c = mark_is p.behind in
     let m = having l (header_items h) t.arrives.first in
@@ -270,4 +271,4 @@ header_is_walked pieces found h place so_far outer k ts w d f =
             ∙ ap (λ (x : Option (List Token)). known_header c.0.place (header_in (tokens_before x (c.0 ∷ c.1))) m) t.begins
             ∙ ap (λ (x : List Token). known_header c.0.place (header_in (before ts x)) m) (sym c.2)
             ∙ ap (λ (x : List Token). known_header c.0.place (header_in x) m) (before_is p.piece p.rest ts p.is)
-            ∙ ap (λ (o : Option Header). known_header c.0.place o m) (found h w p.piece p.front))))
+            ∙ ap (λ (o : Option Header). known_header c.0.place o m) (header_found h w p.piece p.front))))

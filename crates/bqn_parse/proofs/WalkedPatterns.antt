@@ -21,6 +21,7 @@ use Rattle.bqn_syntax.specs.Spells.{Sign, Exact, Mark, Apart, Gap, Fits, exact, 
 use Rattle.bqn_syntax.specs.Well.{WellPattern, WellPatterns, WellJoined, WellHeader, IsValue, WellExpr, header_depth, pattern_depth, patterns_depth}
 use Rattle.bqn_syntax.specs.Plain.{Pattern, Name, Skip, Literal, ListPattern, StrandPattern, Patterns, no_patterns, and_patterns, patterns, Header, Expr, Leaf, Nothing, BodyTree, Stmt, Eval, Predicate, Export}
 use Rattle.bqn_parse.proofs.TreeItems.{part_item, pattern_items, joined_items, joined_more_items, expr_items}
+use Rattle.bqn_parse.proofs.FoundPieces.{pattern_found, pattern_items_are_some}
 use Rattle.bqn_parse.proofs.WalkedLooks.{arrow_ahead, colon_ahead, exact_is, mark_is, mark_sort, word_stands, literal_stands, behind_opening, list_crosses, crosses_gap, pattern_passes, joined_more_passes}
 use Rattle.bqn_parse.proofs.WalkedArrows.{Arrows, Colons, other_arrows, apart_arrows, gap_arrows, joined_arrows}
 use Rattle.bqn_parse.proofs.WalkedSteps.{having, clean, Arrives, nothing_more, and_then, to_items, take_exact, take_mark, Many, gap_walks, Completes, apart_walks, Makes, close_after, close_empty, open_step, group_arrives}
@@ -28,18 +29,6 @@ use Rattle.bqn_parse.proofs.WalkedSteps.{having, clean, Arrives, nothing_more, a
 -- where a body of a block begins, behind these bodies
 abbrev pub body_start : Place → List BodyTree → Level
 body_start place so_far = record { inside = inside.Block; opened = place; first = None; items = []; expressions = []; targets = []; header = None; statements = []; done = so_far }
-
--- what is known of single pieces: a well piece is judged to be itself by its items
-pub record Pieces : Type 0 where
-  pub expression_found : (e : Expr) → WellExpr e → piece_expression (expr_items e) ≡ Some e
-  pub evaluated_found : (e : Expr) → WellExpr e → piece_statement (expr_items e) ≡ Some (Eval e)
-  pub exported_found : (q : Pattern) → WellPattern false q → piece_statement (pattern_items q ++ Drawn arrow.Export ∷ []) ≡ Some (Export q)
-  pub predicate_found : (e : Expr) → IsValue e → WellExpr e → piece_predicate (expr_items e) ≡ Some (Predicate e)
-  pub pattern_found : (literals : Bool) (q : Pattern) → WellPattern literals q → piece_pattern literals (pattern_items q) ≡ Some q
-  pub items_are_some : (e : Expr) → WellExpr e → expr_items e ≡ [] → ⊥
-  pub pattern_items_are_some : (literals : Bool) (q : Pattern) → WellPattern literals q → pattern_items q ≡ [] → ⊥
-  -- a header, up to what stands behind its `:`
-  pub header_walks : (h : Header) (place : Place) (so_far : List BodyTree) (outer : List Level) (k : List Sign) (ts : List Token) → WellHeader h → length outer + header_depth (Some h) ≤ 128 → Fits (header_signs h (Mark 58 ∷ k)) ts → (rest : List Token) × Fits k rest × (walk (levels (body_start place so_far) outer) ts ≡ walk (levels (clean (and_header h (body_start place so_far))) outer) rest)
 
 -- Colons.
 
@@ -169,69 +158,68 @@ makes_patterns j place qs p at =
     ∙ ap (λ (all : List Pattern). Ok (OfList (ListPattern (patterns all)))) (targeting_targets (fresh j place) qs)
     ∙ ap (λ (all : Patterns). Ok (OfList (ListPattern all))) (listed_back qs)
 
-module _ (pieces : Pieces) where
-  judged_pattern : (j : Inside) (place : Place) (l : Level) (q : Pattern) → IsPatternInside j → piece_pattern (literals_in j) l.items ≡ Some q → judged j place l ≡ Ok (and_target q l)
-  judged_pattern inside.Pattern place l q p e = ap (λ (o : Option Pattern). well place and_target o l) e
-  judged_pattern inside.HeaderPattern place l q p e = ap (λ (o : Option Pattern). well place and_target o l) e
-  judged_pattern inside.Program place l q p e = elim p [ ]
-  judged_pattern inside.Parens place l q p e = elim p [ ]
-  judged_pattern inside.List place l q p e = elim p [ ]
-  judged_pattern inside.Merge place l q p e = elim p [ ]
-  judged_pattern inside.Block place l q p e = elim p [ ]
+judged_pattern : (j : Inside) (place : Place) (l : Level) (q : Pattern) → IsPatternInside j → piece_pattern (literals_in j) l.items ≡ Some q → judged j place l ≡ Ok (and_target q l)
+judged_pattern inside.Pattern place l q p e = ap (λ (o : Option Pattern). well place and_target o l) e
+judged_pattern inside.HeaderPattern place l q p e = ap (λ (o : Option Pattern). well place and_target o l) e
+judged_pattern inside.Program place l q p e = elim p [ ]
+judged_pattern inside.Parens place l q p e = elim p [ ]
+judged_pattern inside.List place l q p e = elim p [ ]
+judged_pattern inside.Merge place l q p e = elim p [ ]
+judged_pattern inside.Block place l q p e = elim p [ ]
 
-  completes_pattern : (l : Level) (j : Inside) (q : Pattern) → l.inside ≡ j → IsPatternInside j → WellPattern (literals_in j) q → Completes l (pattern_items q) (clean (and_target q l))
-  completes_pattern l j q e p w place f =
-      ended_some (pattern_items q) place (having (clean l) (pattern_items q) f) (pieces.pattern_items_are_some (literals_in j) q w)
-      ∙ ap (λ (i : Inside). judged i place (having (clean l) (pattern_items q) f)) e
-      ∙ judged_pattern j place (having (clean l) (pattern_items q) f) q p (pieces.pattern_found (literals_in j) q w)
+completes_pattern : (l : Level) (j : Inside) (q : Pattern) → l.inside ≡ j → IsPatternInside j → WellPattern (literals_in j) q → Completes l (pattern_items q) (clean (and_target q l))
+completes_pattern l j q e p w place f =
+    ended_some (pattern_items q) place (having (clean l) (pattern_items q) f) (pattern_items_are_some (literals_in j) q w)
+    ∙ ap (λ (i : Inside). judged i place (having (clean l) (pattern_items q) f)) e
+    ∙ judged_pattern j place (having (clean l) (pattern_items q) f) q p (pattern_found (literals_in j) q w)
 
-  more_arrows : (qs : Patterns) (k : List Sign) → Arrows false (listed_more qs (Gap ∷ Mark 10217 ∷ k))
-  more_arrows no_patterns k = closed_gap_arrows Angle 10217 k refl
-  more_arrows (and_patterns q qs) k = apart_arrows (Gap ∷ pattern_signs q (listed_more qs (Gap ∷ Mark 10217 ∷ k)))
+more_arrows : (qs : Patterns) (k : List Sign) → Arrows false (listed_more qs (Gap ∷ Mark 10217 ∷ k))
+more_arrows no_patterns k = closed_gap_arrows Angle 10217 k refl
+more_arrows (and_patterns q qs) k = apart_arrows (Gap ∷ pattern_signs q (listed_more qs (Gap ∷ Mark 10217 ∷ k)))
 
-  more_colons : (qs : Patterns) (k : List Sign) → Colons false (listed_more qs (Gap ∷ Mark 10217 ∷ k))
-  more_colons no_patterns k = closed_gap_colons Angle 10217 k refl
-  more_colons (and_patterns q qs) k = apart_colons (Gap ∷ pattern_signs q (listed_more qs (Gap ∷ Mark 10217 ∷ k)))
+more_colons : (qs : Patterns) (k : List Sign) → Colons false (listed_more qs (Gap ∷ Mark 10217 ∷ k))
+more_colons no_patterns k = closed_gap_colons Angle 10217 k refl
+more_colons (and_patterns q qs) k = apart_colons (Gap ∷ pattern_signs q (listed_more qs (Gap ∷ Mark 10217 ∷ k)))
 
-  mutual
-    pub pattern_arrives : (q : Pattern) (j : Inside) (b c : Bool) (so : Levels) (k : List Sign) (ts : List Token) → WellPattern (literals_in j) q → IsPatternInside j → Chooses so.level b c j → length so.outer + pattern_depth q ≤ 128 → Arrows b k → Colons c k → Fits (pattern_signs q k) ts → Arrives so (pattern_items q) k ts
-    pattern_arrives (Name t) j b c so k ts w p h d x y f = take_exact so Stands (part_item (Leaf t)) t k ts (word_stands t.kind w) (λ a rest. refl) f
-    pattern_arrives (Skip place) j b c so k ts w p h d x y f = take_exact so Skips (part_item (Nothing place)) (mark_at 183 place) k ts refl (λ a rest. refl) f
-    pattern_arrives (Literal t) j b c so k ts w p h d x y f = take_exact so Stands (part_item (Leaf t)) t k ts (literal_stands t.kind w.1) (λ a rest. refl) f
-    pattern_arrives (ListPattern qs) j b c so k ts w p h d x y f =
-        let m = mark_is f in
-        let n = behind_opening Angle 10217 k m.1 refl (list_crosses (literals_in j) qs k m.1 w m.4) in
-        let o = open_step Angle so m.0 ts m.1 j m.2 (mark_sort m.0 10216 (Opens Angle) m.3 refl) (omega arith) (h (behind_group m.1) (ap (λ (a : Ahead). a.arrow) n.2 ∙ x n.0 n.1) (ap (λ (a : Ahead). a.colon) n.2 ∙ y n.0 n.1)) in
-        let around = having so.level [] (or_first so.level.first ts) in
-        let g = gap_walks (fresh j m.0.place) (around ∷ so.outer) (listed_signs qs (Gap ∷ Mark 10217 ∷ k)) m.1 (many_patterns j p) m.4 in
-        let r = listed_arrives qs j (fresh j m.0.place) around (OfList (ListPattern qs)) so.outer k g.0 refl w p (omega arith) (makes_patterns j m.0.place qs p) g.1 in
-        group_arrives so (OfList (ListPattern qs)) k ts r.0 (levels (clean (fresh j m.0.place)) (around ∷ so.outer)) m.1 o (g.2 ∙ r.2) r.1
-    pattern_arrives (StrandPattern qs) j b c so k ts w p h d x y f = joined_arrives qs j b c so k ts w.1 p h d x y f
+mutual
+  pub pattern_arrives : (q : Pattern) (j : Inside) (b c : Bool) (so : Levels) (k : List Sign) (ts : List Token) → WellPattern (literals_in j) q → IsPatternInside j → Chooses so.level b c j → length so.outer + pattern_depth q ≤ 128 → Arrows b k → Colons c k → Fits (pattern_signs q k) ts → Arrives so (pattern_items q) k ts
+  pattern_arrives (Name t) j b c so k ts w p h d x y f = take_exact so Stands (part_item (Leaf t)) t k ts (word_stands t.kind w) (λ a rest. refl) f
+  pattern_arrives (Skip place) j b c so k ts w p h d x y f = take_exact so Skips (part_item (Nothing place)) (mark_at 183 place) k ts refl (λ a rest. refl) f
+  pattern_arrives (Literal t) j b c so k ts w p h d x y f = take_exact so Stands (part_item (Leaf t)) t k ts (literal_stands t.kind w.1) (λ a rest. refl) f
+  pattern_arrives (ListPattern qs) j b c so k ts w p h d x y f =
+      let m = mark_is f in
+      let n = behind_opening Angle 10217 k m.1 refl (list_crosses (literals_in j) qs k m.1 w m.4) in
+      let o = open_step Angle so m.0 ts m.1 j m.2 (mark_sort m.0 10216 (Opens Angle) m.3 refl) (omega arith) (h (behind_group m.1) (ap (λ (a : Ahead). a.arrow) n.2 ∙ x n.0 n.1) (ap (λ (a : Ahead). a.colon) n.2 ∙ y n.0 n.1)) in
+      let around = having so.level [] (or_first so.level.first ts) in
+      let g = gap_walks (fresh j m.0.place) (around ∷ so.outer) (listed_signs qs (Gap ∷ Mark 10217 ∷ k)) m.1 (many_patterns j p) m.4 in
+      let r = listed_arrives qs j (fresh j m.0.place) around (OfList (ListPattern qs)) so.outer k g.0 refl w p (omega arith) (makes_patterns j m.0.place qs p) g.1 in
+      group_arrives so (OfList (ListPattern qs)) k ts r.0 (levels (clean (fresh j m.0.place)) (around ∷ so.outer)) m.1 o (g.2 ∙ r.2) r.1
+  pattern_arrives (StrandPattern qs) j b c so k ts w p h d x y f = joined_arrives qs j b c so k ts w.1 p h d x y f
 
-    listed_arrives : (qs : Patterns) (j : Inside) (l around : Level) (x : Element) (outer : List Level) (k : List Sign) (ts : List Token) → l.inside ≡ j → WellPatterns (literals_in j) qs → IsPatternInside j → length outer + (1 + patterns_depth qs) ≤ 128 → Makes (targeting l qs) x → Fits (listed_signs qs (Gap ∷ Mark 10217 ∷ k)) ts → (rest : List Token) × Fits k rest × (walk (levels (clean l) (around ∷ outer)) ts ≡ walk (levels (and_item (Standing x) around) outer) rest)
-    listed_arrives no_patterns j l around x outer k ts e w p d m f = close_empty Angle 10217 l around x outer k ts refl (ap (λ (i : Inside). closes Angle i) e ∙ closes_patterns j p) (subst (λ (i : Inside). Many i) (sym e) (many_patterns j p)) m f
-    listed_arrives (and_patterns q qs) j l around x outer k ts e w p d m f =
-        let a = pattern_arrives q j false false (levels (clean l) (around ∷ outer)) (listed_more qs (Gap ∷ Mark 10217 ∷ k)) ts w.0 p (inner_chooses l j e p) (omega (arith, le-max_left (pattern_depth q) (patterns_depth qs))) (more_arrows qs k) (more_colons qs k) f in
-        let r = listed_more_arrives qs j l (and_target q l) around x (pattern_items q) a.first outer k a.rest e e w.1 p (omega (arith, le-max_right (pattern_depth q) (patterns_depth qs))) (completes_pattern l j q e p w.0) m a.fits in
-        (r.0, r.1, a.walks ∙ r.2)
+  listed_arrives : (qs : Patterns) (j : Inside) (l around : Level) (x : Element) (outer : List Level) (k : List Sign) (ts : List Token) → l.inside ≡ j → WellPatterns (literals_in j) qs → IsPatternInside j → length outer + (1 + patterns_depth qs) ≤ 128 → Makes (targeting l qs) x → Fits (listed_signs qs (Gap ∷ Mark 10217 ∷ k)) ts → (rest : List Token) × Fits k rest × (walk (levels (clean l) (around ∷ outer)) ts ≡ walk (levels (and_item (Standing x) around) outer) rest)
+  listed_arrives no_patterns j l around x outer k ts e w p d m f = close_empty Angle 10217 l around x outer k ts refl (ap (λ (i : Inside). closes Angle i) e ∙ closes_patterns j p) (subst (λ (i : Inside). Many i) (sym e) (many_patterns j p)) m f
+  listed_arrives (and_patterns q qs) j l around x outer k ts e w p d m f =
+      let a = pattern_arrives q j false false (levels (clean l) (around ∷ outer)) (listed_more qs (Gap ∷ Mark 10217 ∷ k)) ts w.0 p (inner_chooses l j e p) (omega (arith, le-max_left (pattern_depth q) (patterns_depth qs))) (more_arrows qs k) (more_colons qs k) f in
+      let r = listed_more_arrives qs j l (and_target q l) around x (pattern_items q) a.first outer k a.rest e e w.1 p (omega (arith, le-max_right (pattern_depth q) (patterns_depth qs))) (completes_pattern l j q e p w.0) m a.fits in
+      (r.0, r.1, a.walks ∙ r.2)
 
-    listed_more_arrives : (qs : Patterns) (j : Inside) (l next around : Level) (x : Element) (is : List Item) (first : Option (List Token)) (outer : List Level) (k : List Sign) (ts : List Token) → l.inside ≡ j → next.inside ≡ j → WellPatterns (literals_in j) qs → IsPatternInside j → length outer + (1 + patterns_depth qs) ≤ 128 → Completes l is (clean next) → Makes (targeting next qs) x → Fits (listed_more qs (Gap ∷ Mark 10217 ∷ k)) ts → (rest : List Token) × Fits k rest × (walk (levels (having (clean l) is first) (around ∷ outer)) ts ≡ walk (levels (and_item (Standing x) around) outer) rest)
-    listed_more_arrives no_patterns j l next around x is first outer k ts e n w p d c m f = close_after Angle 10217 l next around x is first outer k ts refl (ap (λ (i : Inside). closes Angle i) e ∙ closes_patterns j p) (ap (λ (i : Inside). closes Angle i) n ∙ closes_patterns j p) (subst (λ (i : Inside). Many i) (sym e) (many_patterns j p)) (subst (λ (i : Inside). Many i) (sym n) (many_patterns j p)) c m f
-    listed_more_arrives (and_patterns q qs) j l next around x is first outer k ts e n w p d c m f =
-        let s = apart_walks l next is first (around ∷ outer) (pattern_signs q (listed_more qs (Gap ∷ Mark 10217 ∷ k))) ts (subst (λ (i : Inside). Many i) (sym e) (many_patterns j p)) (subst (λ (i : Inside). Many i) (sym n) (many_patterns j p)) c f in
-        let a = pattern_arrives q j false false (levels (clean next) (around ∷ outer)) (listed_more qs (Gap ∷ Mark 10217 ∷ k)) s.0 w.0 p (inner_chooses next j n p) (omega (arith, le-max_left (pattern_depth q) (patterns_depth qs))) (more_arrows qs k) (more_colons qs k) s.1 in
-        let r = listed_more_arrives qs j next (and_target q next) around x (pattern_items q) a.first outer k a.rest n n w.1 p (omega (arith, le-max_right (pattern_depth q) (patterns_depth qs))) (completes_pattern next j q n p w.0) m a.fits in
-        (r.0, r.1, s.2 ∙ a.walks ∙ r.2)
+  listed_more_arrives : (qs : Patterns) (j : Inside) (l next around : Level) (x : Element) (is : List Item) (first : Option (List Token)) (outer : List Level) (k : List Sign) (ts : List Token) → l.inside ≡ j → next.inside ≡ j → WellPatterns (literals_in j) qs → IsPatternInside j → length outer + (1 + patterns_depth qs) ≤ 128 → Completes l is (clean next) → Makes (targeting next qs) x → Fits (listed_more qs (Gap ∷ Mark 10217 ∷ k)) ts → (rest : List Token) × Fits k rest × (walk (levels (having (clean l) is first) (around ∷ outer)) ts ≡ walk (levels (and_item (Standing x) around) outer) rest)
+  listed_more_arrives no_patterns j l next around x is first outer k ts e n w p d c m f = close_after Angle 10217 l next around x is first outer k ts refl (ap (λ (i : Inside). closes Angle i) e ∙ closes_patterns j p) (ap (λ (i : Inside). closes Angle i) n ∙ closes_patterns j p) (subst (λ (i : Inside). Many i) (sym e) (many_patterns j p)) (subst (λ (i : Inside). Many i) (sym n) (many_patterns j p)) c m f
+  listed_more_arrives (and_patterns q qs) j l next around x is first outer k ts e n w p d c m f =
+      let s = apart_walks l next is first (around ∷ outer) (pattern_signs q (listed_more qs (Gap ∷ Mark 10217 ∷ k))) ts (subst (λ (i : Inside). Many i) (sym e) (many_patterns j p)) (subst (λ (i : Inside). Many i) (sym n) (many_patterns j p)) c f in
+      let a = pattern_arrives q j false false (levels (clean next) (around ∷ outer)) (listed_more qs (Gap ∷ Mark 10217 ∷ k)) s.0 w.0 p (inner_chooses next j n p) (omega (arith, le-max_left (pattern_depth q) (patterns_depth qs))) (more_arrows qs k) (more_colons qs k) s.1 in
+      let r = listed_more_arrives qs j next (and_target q next) around x (pattern_items q) a.first outer k a.rest n n w.1 p (omega (arith, le-max_right (pattern_depth q) (patterns_depth qs))) (completes_pattern next j q n p w.0) m a.fits in
+      (r.0, r.1, s.2 ∙ a.walks ∙ r.2)
 
-    joined_arrives : (qs : Patterns) (j : Inside) (b c : Bool) (so : Levels) (k : List Sign) (ts : List Token) → WellJoined (literals_in j) qs → IsPatternInside j → Chooses so.level b c j → length so.outer + patterns_depth qs ≤ 128 → Arrows b k → Colons c k → Fits (joined_signs qs k) ts → Arrives so (joined_items qs) k ts
-    joined_arrives no_patterns j b c so k ts w p h d x y f = nothing_more so k ts f
-    joined_arrives (and_patterns q qs) j b c so k ts w p h d x y f =
-        and_then (pattern_arrives q j b c so (joined_more qs k) ts w.1 p h (omega (arith, le-max_left (pattern_depth q) (patterns_depth qs))) (joined_arrows (literals_in j) b qs k w.2 x) (joined_colons (literals_in j) c qs k w.2 y) f)
-          (λ first rest g. joined_more_arrives qs j b c (levels (having so.level (pattern_items q) first) so.outer) k rest w.2 p h (omega (arith, le-max_right (pattern_depth q) (patterns_depth qs))) x y g)
+  joined_arrives : (qs : Patterns) (j : Inside) (b c : Bool) (so : Levels) (k : List Sign) (ts : List Token) → WellJoined (literals_in j) qs → IsPatternInside j → Chooses so.level b c j → length so.outer + patterns_depth qs ≤ 128 → Arrows b k → Colons c k → Fits (joined_signs qs k) ts → Arrives so (joined_items qs) k ts
+  joined_arrives no_patterns j b c so k ts w p h d x y f = nothing_more so k ts f
+  joined_arrives (and_patterns q qs) j b c so k ts w p h d x y f =
+      and_then (pattern_arrives q j b c so (joined_more qs k) ts w.1 p h (omega (arith, le-max_left (pattern_depth q) (patterns_depth qs))) (joined_arrows (literals_in j) b qs k w.2 x) (joined_colons (literals_in j) c qs k w.2 y) f)
+        (λ first rest g. joined_more_arrives qs j b c (levels (having so.level (pattern_items q) first) so.outer) k rest w.2 p h (omega (arith, le-max_right (pattern_depth q) (patterns_depth qs))) x y g)
 
-    joined_more_arrives : (qs : Patterns) (j : Inside) (b c : Bool) (so : Levels) (k : List Sign) (ts : List Token) → WellJoined (literals_in j) qs → IsPatternInside j → Chooses so.level b c j → length so.outer + patterns_depth qs ≤ 128 → Arrows b k → Colons c k → Fits (joined_more qs k) ts → Arrives so (joined_more_items qs) k ts
-    joined_more_arrives no_patterns j b c so k ts w p h d x y f = nothing_more so k ts f
-    joined_more_arrives (and_patterns q qs) j b c so k ts w p h d x y f =
-        and_then (take_mark so Joins Joining 8255 (pattern_signs q (joined_more qs k)) ts refl (λ a t rest. refl) f) (λ first rest g.
-        and_then (pattern_arrives q j b c (levels (having so.level (Joining ∷ []) first) so.outer) (joined_more qs k) rest w.1 p h (omega (arith, le-max_left (pattern_depth q) (patterns_depth qs))) (joined_arrows (literals_in j) b qs k w.2 x) (joined_colons (literals_in j) c qs k w.2 y) g) (λ second more i.
-        joined_more_arrives qs j b c (levels (having (having so.level (Joining ∷ []) first) (pattern_items q) second) so.outer) k more w.2 p h (omega (arith, le-max_right (pattern_depth q) (patterns_depth qs))) x y i))
+  joined_more_arrives : (qs : Patterns) (j : Inside) (b c : Bool) (so : Levels) (k : List Sign) (ts : List Token) → WellJoined (literals_in j) qs → IsPatternInside j → Chooses so.level b c j → length so.outer + patterns_depth qs ≤ 128 → Arrows b k → Colons c k → Fits (joined_more qs k) ts → Arrives so (joined_more_items qs) k ts
+  joined_more_arrives no_patterns j b c so k ts w p h d x y f = nothing_more so k ts f
+  joined_more_arrives (and_patterns q qs) j b c so k ts w p h d x y f =
+      and_then (take_mark so Joins Joining 8255 (pattern_signs q (joined_more qs k)) ts refl (λ a t rest. refl) f) (λ first rest g.
+      and_then (pattern_arrives q j b c (levels (having so.level (Joining ∷ []) first) so.outer) (joined_more qs k) rest w.1 p h (omega (arith, le-max_left (pattern_depth q) (patterns_depth qs))) (joined_arrows (literals_in j) b qs k w.2 x) (joined_colons (literals_in j) c qs k w.2 y) g) (λ second more i.
+      joined_more_arrives qs j b c (levels (having (having so.level (Joining ∷ []) first) (pattern_items q) second) so.outer) k more w.2 p h (omega (arith, le-max_right (pattern_depth q) (patterns_depth qs))) x y i))

@@ -4,6 +4,7 @@
 mod error;
 mod expression;
 mod item;
+mod laws;
 mod parsing;
 mod pattern;
 mod pieces;
@@ -14,4 +15,5 @@ mod unit;
 mod units;
 
 pub use error::ParseError;
+pub use laws::{trees_are_unique, well_trees_are_found};
 pub use parsing::parse;

@@ -1,0 +1,15 @@
+//! What holds of the grammar itself: nothing runs here.
+
+ghost use Rattle.bqn_syntax.specs.Grammar.{TreesAreUnique, WellTreesAreFound};
+
+/// Each well tree is found from every token list that spells it.
+#[tactic(auto, using(crate::proofs::Found::found_laws))]
+pub fn well_trees_are_found()
+    ensures { WellTreesAreFound }
+{}
+
+/// A token list is spelled by at most one well tree.
+#[tactic(auto, using(crate::proofs::Found::found_laws))]
+pub fn trees_are_unique()
+    ensures { TreesAreUnique }
+{}
