@@ -2,15 +2,14 @@ ghost use Rattle.std.specs.Prelude.{◌≡◌, map};
 ghost use Rattle.std.specs.Option.{option_map};
 ghost use Rattle.std.specs.List.{list_any, list_all};
 ghost use Rattle.bqn_syntax.specs.Plain.{header_of};
-ghost use Rattle.bqn_syntax.specs.Headers as Headers;
 ghost use Rattle.bqn_syntax.specs.Sorts as Sorts;
 ghost use Rattle.bqn_syntax.specs.Classes as Classes;
 ghost use Rattle.bqn_syntax.specs.Classes.{class_of, plain_last};
 ghost use Rattle.bqn_headers.specs.Heading.{marks_shown};
 ghost use Rattle.bqn_headers.specs.Marks.{has, is_called, mod1_class, mod2_class};
 
-use bqn_base::Role;
-use bqn_syntax::{Class, Header, Kind, Special, Tag};
+use crate::name::own_tag;
+use bqn_syntax::{Class, Header, Tag};
 
 /// What occurs in a body's own text: its header, whether it has a predicate, how many statements
 /// stand behind the last one, and in its statements `𝕨`, `𝕩` or `𝕤` of either role (`args`), `𝕗`
@@ -41,19 +40,6 @@ enum Mark {
     Called,
     /// A name or a header with arguments.
     Deferred,
-}
-
-/// What a name is as that of the block's own function or modifier.
-pub(crate) fn own_tag(kind: &Kind) -> Tag
-    ensures { result ≡ Headers.own_tag kind.now }
-{
-    match kind {
-        Kind::Word(_, role) => Tag::of(*role),
-        Kind::Special(Special::Own, Role::Function) => Tag::Function,
-        Kind::Special(Special::Modifier, Role::Mod1) => Tag::Mod1,
-        Kind::Special(Special::Modifier, Role::Mod2) => Tag::Mod2,
-        _ => Tag::Nothing,
-    }
 }
 
 fn same_tag(tag: Tag, other: Tag) -> bool

@@ -2,8 +2,12 @@
 #![tactic(auto)]
 
 mod class;
+mod element;
 mod error;
+mod groups;
 mod heading;
+mod name;
+mod queue;
 
 pub use class::{BodyMarks, block_class};
 pub use error::HeadError;
