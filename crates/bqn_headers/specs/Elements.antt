@@ -1,9 +1,7 @@
--- What the elements and items of a header are in the definition, and the tests on them.
-use Rattle.std.specs.Prelude.{Bool, true, false, List, [], ◌∷◌, map, Option, Some, None}
+-- What the elements and items of a header are in the definition.
+use Rattle.std.specs.Prelude.{Bool, true, false, List, map}
 use Rattle.bqn_syntax.specs.declared.token.Kind.{Kind}
 use Rattle.bqn_syntax.specs.declared.token.Kind.TheVariants as kind
-use Rattle.bqn_syntax.specs.declared.sort.Tag.{Tag}
-use Rattle.bqn_syntax.specs.declared.sort.Tag.TheVariants as tag
 use Rattle.bqn_syntax.specs.Plain.{pattern_of, Leaf, Nothing}
 use Rattle.bqn_syntax.specs.Items as items
 use Rattle.bqn_headers.specs.declared.element.Element.{Element}
@@ -34,13 +32,3 @@ groups_shown = map group_shown
 
 abbrev pub items_shown : List Item → List items.Item
 items_shown = map item_shown
-
--- whether a group is one token, and passes the test
-abbrev pub lone_is : (Kind → Bool) → List items.Element → Bool
-lone_is test (items.OfPart (Leaf t) ∷ []) = test t.kind
-lone_is test _ = false
-
-abbrev pub is_modifier : Tag → Bool
-is_modifier tag.Mod1 = true
-is_modifier tag.Mod2 = true
-is_modifier _ = false

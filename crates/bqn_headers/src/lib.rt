@@ -1,11 +1,14 @@
 //! Headers of bodies, and the classes of blocks.
 #![tactic(auto)]
 
+mod argument;
 mod class;
 mod element;
 mod error;
+mod form;
 mod groups;
 mod heading;
+mod lists;
 mod name;
 mod queue;
 
