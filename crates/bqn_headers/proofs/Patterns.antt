@@ -73,10 +73,12 @@ pub gone-start : (xs : List Element) → Gone [] xs (items.each (items.element_p
 gone-start xs = record { same = behind-nil _ }
 
 pub gone-step : (so : List Pattern) (x : Element) (xs : List Element) (q : Pattern) (whole : Option (List Pattern)) → Gone so (x ∷ xs) whole → Some q ≡ items.element_pattern true (element_shown x) → Gone (so ++ q ∷ []) xs whole
-gone-step so x xs q whole gone e = record { same =
-    sym (behind-cons so q (items.each (items.element_pattern true) (group_shown xs)))
-    ∙ ap (λ (o : Option Pattern). behind so (items.both o (items.each (items.element_pattern true) (group_shown xs)))) e
-    ∙ gone.same }
+gone-step so x xs q whole gone e = record {
+  same =
+      sym (behind-cons so q (items.each (items.element_pattern true) (group_shown xs)))
+      ∙ ap (λ (o : Option Pattern). behind so (items.both o (items.each (items.element_pattern true) (group_shown xs)))) e
+      ∙ gone.same;
+}
 
 pub gone-stuck : (so : List Pattern) (x : Element) (xs : List Element) (whole : Option (List Pattern)) → Gone so (x ∷ xs) whole → None ≡ items.element_pattern true (element_shown x) → whole ≡ None
 gone-stuck so x xs whole gone e = sym gone.same ∙ sym (ap (λ (o : Option Pattern). behind so (items.both o (items.each (items.element_pattern true) (group_shown xs)))) e)

@@ -190,10 +190,7 @@ fn follow_left(groups: &Queue<Queue<Element>>) -> bool
 
 /// The header that groups of joined elements are.
 #[tactic(auto, using(crate::proofs::Forms::form_laws))]
-pub(crate) fn header_form(
-    alloc: Global,
-    groups: Queue<Queue<Element>>,
-) -> Result<Header, HeadError>
+pub(crate) fn header_form(alloc: Global, groups: Queue<Queue<Element>>) -> Result<Header, HeadError>
     ensures { Finds (Headers.header_form (groups_shown groups)) header_of result }
 {
     let mut groups = groups;

@@ -11,6 +11,8 @@ mod heading;
 mod lists;
 mod name;
 mod queue;
+#[cfg(test)]
+mod tests;
 
 pub use class::{BodyMarks, block_class};
 pub use error::HeadError;

@@ -91,9 +91,7 @@ impl Lists {
         };
         self.inner.end_piece(alloc)?;
         let closed = mem::replace(&mut self.inner, around);
-        self.push(Item::Standing(Element::List(Pattern::List(Row::new(
-            closed.pieces,
-        )))))
+        self.push(Item::Standing(Element::List(Pattern::List(Row::new(closed.pieces)))))
     }
 
     /// Ends a piece of the innermost list; the header itself has no pieces.
