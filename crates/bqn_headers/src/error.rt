@@ -1,6 +1,7 @@
 ghost use Rattle.std.specs.Prelude.{◌≡◌};
 ghost use Rattle.bqn_headers.specs.declared.error.HeadError.TheVariants as error;
 
+use bqn_base::Memory;
 use std::alloc::{AllocError, AllocFailed};
 
 /// Why a piece has no header: it is none, or memory is wanting.
@@ -22,6 +23,14 @@ impl<T: Drop> From<AllocFailed<T>> for HeadError {
     ghost from_gives = { λ _ given. given ≡ error.Memory };
 
     fn from(_error: AllocFailed<T>) -> HeadError {
+        HeadError::Memory
+    }
+}
+
+impl From<Memory> for HeadError {
+    ghost from_gives = { λ _ given. given ≡ error.Memory };
+
+    fn from(_error: Memory) -> HeadError {
         HeadError::Memory
     }
 }
