@@ -1,1 +1,2 @@
 mod LastName
+mod Strands

@@ -7,6 +7,7 @@ mod item;
 mod parsing;
 mod pattern;
 mod pieces;
+mod strand;
 mod tags;
 mod term;
 mod terms;
