@@ -1,2 +1,3 @@
 mod LastName
 mod Strands
+mod Readers
