@@ -1,3 +1,4 @@
 mod LastName
 mod Strands
 mod Readers
+mod Groups

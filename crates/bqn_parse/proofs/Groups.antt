@@ -1,0 +1,131 @@
+-- Groups of joined elements.
+use Rattle.std.proofs.Common.{◌≡◌, ◌<◌, ◌≤◌, List, [], ◌∷◌, ◌++◌, length, map, Bool, Option, Some, None, refl, sym, ap, ◌∙◌, arith}
+use Rattle.std.specs.Option.{option_map, option_and_then}
+use Rattle.bqn_syntax.specs.declared.tree.Arrow.{Arrow}
+use Rattle.bqn_syntax.specs.Items.{Element, Item, Standing, Drawn, Joining, Selecting, Wrong, each, element_pattern, group_pattern, onto_first, groups, only_group, piece_pattern}
+use Rattle.bqn_syntax.specs.Plain.{Pattern, StrandPattern, patterns}
+
+-- these elements, each with a joiner behind it, before other items
+abbrev pub strung : List Element → List Item → List Item
+strung [] items = items
+strung (x ∷ xs) items = Standing x ∷ Joining ∷ strung xs items
+
+pub strung-more : (xs : List Element) (x : Element) (items : List Item) → strung xs (Standing x ∷ Joining ∷ items) ≡ strung (xs ++ x ∷ []) items
+strung-more [] x items = refl
+strung-more (y ∷ ys) x items = ap (λ (l : List Item). Standing y ∷ Joining ∷ l) (strung-more ys x items)
+
+-- the groups, where these elements stand before the first one
+abbrev strung_groups : List Element → Option (List (List Element)) → Option (List (List Element))
+strung_groups [] gs = gs
+strung_groups (x ∷ xs) gs = onto_first x (strung_groups xs gs)
+
+groups-strung : (xs : List Element) (items : List Item) → groups (strung xs items) ≡ strung_groups xs (groups items)
+groups-strung [] items = refl
+groups-strung (x ∷ xs) items = ap (λ (gs : Option (List (List Element))). onto_first x gs) (groups-strung xs items)
+
+strung-one : (xs ys : List Element) → strung_groups xs (Some (ys ∷ [])) ≡ Some ((xs ++ ys) ∷ [])
+strung-one [] ys = refl
+strung-one (x ∷ xs) ys = ap (λ (gs : Option (List (List Element))). onto_first x gs) (strung-one xs ys)
+
+pub piece-end : (literals : Bool) (xs : List Element) (x : Element) → piece_pattern literals (strung xs (Standing x ∷ [])) ≡ group_pattern literals (xs ++ x ∷ [])
+piece-end literals xs x = ap (λ (gs : Option (List (List Element))). option_and_then (only_group literals) gs) (groups-strung xs (Standing x ∷ []) ∙ strung-one xs (x ∷ []))
+
+pub piece-more : (literals : Bool) (xs : List Element) (x : Element) (items : List Item) → piece_pattern literals (strung xs (Standing x ∷ Joining ∷ items)) ≡ piece_pattern literals (strung (xs ++ x ∷ []) items)
+piece-more literals xs x items = ap (λ (l : List Item). piece_pattern literals l) (strung-more xs x items)
+
+-- there is not exactly one group
+abbrev NotOne : Option (List (List Element)) → Type 0
+NotOne None = Unit {0}
+NotOne (Some []) = Unit {0}
+NotOne (Some (g ∷ [])) = ⊥
+NotOne (Some (g ∷ h ∷ gs)) = Unit {0}
+
+abbrev NotEmpty : Option (List (List Element)) → Type 0
+NotEmpty None = Unit {0}
+NotEmpty (Some []) = ⊥
+NotEmpty (Some (g ∷ gs)) = Unit {0}
+
+not_one-none : (literals : Bool) (gs : Option (List (List Element))) → NotOne gs → option_and_then (only_group literals) gs ≡ None
+not_one-none literals None n = refl
+not_one-none literals (Some []) n = refl
+not_one-none literals (Some (g ∷ [])) n = absurd n
+not_one-none literals (Some (g ∷ h ∷ gs)) n = refl
+
+not_one-onto : (x : Element) (gs : Option (List (List Element))) → NotOne gs → NotOne (onto_first x gs)
+not_one-onto x None n = tt
+not_one-onto x (Some []) n = tt
+not_one-onto x (Some (g ∷ [])) n = n
+not_one-onto x (Some (g ∷ h ∷ gs)) n = tt
+
+not_one-strung : (xs : List Element) (gs : Option (List (List Element))) → NotOne gs → NotOne (strung_groups xs gs)
+not_one-strung [] gs n = n
+not_one-strung (x ∷ xs) gs n = not_one-onto x (strung_groups xs gs) (not_one-strung xs gs n)
+
+piece-none : (literals : Bool) (xs : List Element) (items : List Item) → NotOne (groups items) → piece_pattern literals (strung xs items) ≡ None
+piece-none literals xs items n =
+    ap (λ (gs : Option (List (List Element))). option_and_then (only_group literals) gs) (groups-strung xs items)
+    ∙ not_one-none literals (strung_groups xs (groups items)) (not_one-strung xs (groups items) n)
+
+-- an element begins a group
+not_empty-onto : (x : Element) (gs : Option (List (List Element))) → NotEmpty (onto_first x gs)
+not_empty-onto x None = tt
+not_empty-onto x (Some []) = tt
+not_empty-onto x (Some (g ∷ gs)) = tt
+
+not_empty-before : (x : Element) (gs : Option (List (List Element))) → NotEmpty (option_map (λ gs. (x ∷ []) ∷ gs) gs)
+not_empty-before x None = tt
+not_empty-before x (Some gs) = tt
+
+not_empty-standing : (x : Element) (items : List Item) → NotEmpty (groups (Standing x ∷ items))
+not_empty-standing x [] = tt
+not_empty-standing x (Joining ∷ items) = not_empty-onto x (groups items)
+not_empty-standing x (Standing y ∷ items) = not_empty-before x (groups (Standing y ∷ items))
+not_empty-standing x (Drawn a ∷ items) = tt
+not_empty-standing x (Selecting ∷ items) = tt
+not_empty-standing x (Wrong ∷ items) = tt
+
+not_one-before : (x : Element) (gs : Option (List (List Element))) → NotEmpty gs → NotOne (option_map (λ gs. (x ∷ []) ∷ gs) gs)
+not_one-before x None n = tt
+not_one-before x (Some []) n = absurd n
+not_one-before x (Some (g ∷ gs)) n = tt
+
+-- where an element is wanted
+
+pub wanted-end : (literals : Bool) (xs : List Element) → piece_pattern literals (strung xs []) ≡ None
+wanted-end literals xs = piece-none literals xs [] tt
+
+pub wanted-drawn : (literals : Bool) (xs : List Element) (a : Arrow) (items : List Item) → piece_pattern literals (strung xs (Drawn a ∷ items)) ≡ None
+wanted-drawn literals xs a items = piece-none literals xs (Drawn a ∷ items) tt
+
+pub wanted-joining : (literals : Bool) (xs : List Element) (items : List Item) → piece_pattern literals (strung xs (Joining ∷ items)) ≡ None
+wanted-joining literals xs items = piece-none literals xs (Joining ∷ items) tt
+
+pub wanted-selecting : (literals : Bool) (xs : List Element) (items : List Item) → piece_pattern literals (strung xs (Selecting ∷ items)) ≡ None
+wanted-selecting literals xs items = piece-none literals xs (Selecting ∷ items) tt
+
+pub wanted-wrong : (literals : Bool) (xs : List Element) (items : List Item) → piece_pattern literals (strung xs (Wrong ∷ items)) ≡ None
+wanted-wrong literals xs items = piece-none literals xs (Wrong ∷ items) tt
+
+-- behind an element
+
+pub behind-standing : (literals : Bool) (xs : List Element) (x y : Element) (items : List Item) → piece_pattern literals (strung xs (Standing x ∷ Standing y ∷ items)) ≡ None
+behind-standing literals xs x y items = piece-none literals xs (Standing x ∷ Standing y ∷ items) (not_one-before x (groups (Standing y ∷ items)) (not_empty-standing y items))
+
+pub behind-drawn : (literals : Bool) (xs : List Element) (x : Element) (a : Arrow) (items : List Item) → piece_pattern literals (strung xs (Standing x ∷ Drawn a ∷ items)) ≡ None
+behind-drawn literals xs x a items = piece-none literals xs (Standing x ∷ Drawn a ∷ items) tt
+
+pub behind-selecting : (literals : Bool) (xs : List Element) (x : Element) (items : List Item) → piece_pattern literals (strung xs (Standing x ∷ Selecting ∷ items)) ≡ None
+behind-selecting literals xs x items = piece-none literals xs (Standing x ∷ Selecting ∷ items) tt
+
+pub behind-wrong : (literals : Bool) (xs : List Element) (x : Element) (items : List Item) → piece_pattern literals (strung xs (Standing x ∷ Wrong ∷ items)) ≡ None
+behind-wrong literals xs x items = piece-none literals xs (Standing x ∷ Wrong ∷ items) tt
+
+pub ruleset piece_laws = (piece-end, piece-more, wanted-end, wanted-drawn, wanted-joining, wanted-selecting, wanted-wrong, behind-standing, behind-drawn, behind-selecting, behind-wrong)
+
+-- several elements
+pub group-several : (literals : Bool) (xs : List Element) → 2 ≤ length xs → group_pattern literals xs ≡ option_map (λ (qs : List Pattern). StrandPattern (patterns qs)) (each (element_pattern literals) xs)
+group-several literals [] few = absurd (omega arith)
+group-several literals (x ∷ []) few = absurd (omega arith)
+group-several literals (x ∷ y ∷ xs) few = refl
+
+pub ruleset group_laws = (group-several)
