@@ -4,13 +4,11 @@ use Rattle.std.specs.Option.{option_map, option_and_then}
 use Rattle.bqn_syntax.specs.declared.tree.Arrow.{Arrow}
 use Rattle.bqn_syntax.specs.Items.{Element, Item, Standing, Drawn, Joining, Selecting, Wrong, each, element_pattern, group_pattern, onto_first, groups, only_group, piece_pattern}
 use Rattle.bqn_syntax.specs.Plain.{Pattern, StrandPattern, patterns}
+use Rattle.bqn_parse.specs.declared.item.Item.{Item as CodeItem}
+use Rattle.bqn_parse.specs.Views.{items_of}
+use Rattle.bqn_parse.specs.Strands.{Strung, one_more, strung, behind_last, spelled, spelt, ended}
 
--- these elements, each with a joiner behind it, before other items
-abbrev pub strung : List Element → List Item → List Item
-strung [] items = items
-strung (x ∷ xs) items = Standing x ∷ Joining ∷ strung xs items
-
-pub strung-more : (xs : List Element) (x : Element) (items : List Item) → strung xs (Standing x ∷ Joining ∷ items) ≡ strung (xs ++ x ∷ []) items
+strung-more : (xs : List Element) (x : Element) (items : List Item) → strung xs (Standing x ∷ Joining ∷ items) ≡ strung (xs ++ x ∷ []) items
 strung-more [] x items = refl
 strung-more (y ∷ ys) x items = ap (λ (l : List Item). Standing y ∷ Joining ∷ l) (strung-more ys x items)
 
@@ -27,10 +25,10 @@ strung-one : (xs ys : List Element) → strung_groups xs (Some (ys ∷ [])) ≡ 
 strung-one [] ys = refl
 strung-one (x ∷ xs) ys = ap (λ (gs : Option (List (List Element))). onto_first x gs) (strung-one xs ys)
 
-pub piece-end : (literals : Bool) (xs : List Element) (x : Element) → piece_pattern literals (strung xs (Standing x ∷ [])) ≡ group_pattern literals (xs ++ x ∷ [])
+piece-end : (literals : Bool) (xs : List Element) (x : Element) → piece_pattern literals (strung xs (Standing x ∷ [])) ≡ group_pattern literals (xs ++ x ∷ [])
 piece-end literals xs x = ap (λ (gs : Option (List (List Element))). option_and_then (only_group literals) gs) (groups-strung xs (Standing x ∷ []) ∙ strung-one xs (x ∷ []))
 
-pub piece-more : (literals : Bool) (xs : List Element) (x : Element) (items : List Item) → piece_pattern literals (strung xs (Standing x ∷ Joining ∷ items)) ≡ piece_pattern literals (strung (xs ++ x ∷ []) items)
+piece-more : (literals : Bool) (xs : List Element) (x : Element) (items : List Item) → piece_pattern literals (strung xs (Standing x ∷ Joining ∷ items)) ≡ piece_pattern literals (strung (xs ++ x ∷ []) items)
 piece-more literals xs x items = ap (λ (l : List Item). piece_pattern literals l) (strung-more xs x items)
 
 -- there is not exactly one group
@@ -91,36 +89,73 @@ not_one-before x (Some (g ∷ gs)) n = tt
 
 -- where an element is wanted
 
-pub wanted-end : (literals : Bool) (xs : List Element) → piece_pattern literals (strung xs []) ≡ None
+wanted-end : (literals : Bool) (xs : List Element) → piece_pattern literals (strung xs []) ≡ None
 wanted-end literals xs = piece-none literals xs [] tt
 
-pub wanted-drawn : (literals : Bool) (xs : List Element) (a : Arrow) (items : List Item) → piece_pattern literals (strung xs (Drawn a ∷ items)) ≡ None
+wanted-drawn : (literals : Bool) (xs : List Element) (a : Arrow) (items : List Item) → piece_pattern literals (strung xs (Drawn a ∷ items)) ≡ None
 wanted-drawn literals xs a items = piece-none literals xs (Drawn a ∷ items) tt
 
-pub wanted-joining : (literals : Bool) (xs : List Element) (items : List Item) → piece_pattern literals (strung xs (Joining ∷ items)) ≡ None
+wanted-joining : (literals : Bool) (xs : List Element) (items : List Item) → piece_pattern literals (strung xs (Joining ∷ items)) ≡ None
 wanted-joining literals xs items = piece-none literals xs (Joining ∷ items) tt
 
-pub wanted-selecting : (literals : Bool) (xs : List Element) (items : List Item) → piece_pattern literals (strung xs (Selecting ∷ items)) ≡ None
+wanted-selecting : (literals : Bool) (xs : List Element) (items : List Item) → piece_pattern literals (strung xs (Selecting ∷ items)) ≡ None
 wanted-selecting literals xs items = piece-none literals xs (Selecting ∷ items) tt
 
-pub wanted-wrong : (literals : Bool) (xs : List Element) (items : List Item) → piece_pattern literals (strung xs (Wrong ∷ items)) ≡ None
+wanted-wrong : (literals : Bool) (xs : List Element) (items : List Item) → piece_pattern literals (strung xs (Wrong ∷ items)) ≡ None
 wanted-wrong literals xs items = piece-none literals xs (Wrong ∷ items) tt
 
 -- behind an element
 
-pub behind-standing : (literals : Bool) (xs : List Element) (x y : Element) (items : List Item) → piece_pattern literals (strung xs (Standing x ∷ Standing y ∷ items)) ≡ None
+behind-standing : (literals : Bool) (xs : List Element) (x y : Element) (items : List Item) → piece_pattern literals (strung xs (Standing x ∷ Standing y ∷ items)) ≡ None
 behind-standing literals xs x y items = piece-none literals xs (Standing x ∷ Standing y ∷ items) (not_one-before x (groups (Standing y ∷ items)) (not_empty-standing y items))
 
-pub behind-drawn : (literals : Bool) (xs : List Element) (x : Element) (a : Arrow) (items : List Item) → piece_pattern literals (strung xs (Standing x ∷ Drawn a ∷ items)) ≡ None
+behind-drawn : (literals : Bool) (xs : List Element) (x : Element) (a : Arrow) (items : List Item) → piece_pattern literals (strung xs (Standing x ∷ Drawn a ∷ items)) ≡ None
 behind-drawn literals xs x a items = piece-none literals xs (Standing x ∷ Drawn a ∷ items) tt
 
-pub behind-selecting : (literals : Bool) (xs : List Element) (x : Element) (items : List Item) → piece_pattern literals (strung xs (Standing x ∷ Selecting ∷ items)) ≡ None
+behind-selecting : (literals : Bool) (xs : List Element) (x : Element) (items : List Item) → piece_pattern literals (strung xs (Standing x ∷ Selecting ∷ items)) ≡ None
 behind-selecting literals xs x items = piece-none literals xs (Standing x ∷ Selecting ∷ items) tt
 
-pub behind-wrong : (literals : Bool) (xs : List Element) (x : Element) (items : List Item) → piece_pattern literals (strung xs (Standing x ∷ Wrong ∷ items)) ≡ None
+behind-wrong : (literals : Bool) (xs : List Element) (x : Element) (items : List Item) → piece_pattern literals (strung xs (Standing x ∷ Wrong ∷ items)) ≡ None
 behind-wrong literals xs x items = piece-none literals xs (Standing x ∷ Wrong ∷ items) tt
 
-pub ruleset piece_laws = (piece-end, piece-more, wanted-end, wanted-drawn, wanted-joining, wanted-selecting, wanted-wrong, behind-standing, behind-drawn, behind-selecting, behind-wrong)
+one_more-is : (literals : Bool) (xs : List Element) (last : Option Element) (item : Item) (items : List Item) → piece_pattern literals (strung xs (behind_last last (item ∷ items))) ≡ option_and_then (λ (next : Strung). piece_pattern literals (spelled next items)) (one_more (record { elements = xs; last = last }) item)
+one_more-is literals xs None (Standing y) items = refl
+one_more-is literals xs None (Drawn a) items = wanted-drawn literals xs a items
+one_more-is literals xs None Joining items = wanted-joining literals xs items
+one_more-is literals xs None Selecting items = wanted-selecting literals xs items
+one_more-is literals xs None Wrong items = wanted-wrong literals xs items
+one_more-is literals xs (Some x) (Standing y) items = behind-standing literals xs x y items
+one_more-is literals xs (Some x) (Drawn a) items = behind-drawn literals xs x a items
+one_more-is literals xs (Some x) Joining items = piece-more literals xs x items
+one_more-is literals xs (Some x) Selecting items = behind-selecting literals xs x items
+one_more-is literals xs (Some x) Wrong items = behind-wrong literals xs x items
+
+pub put-more : (literals : Bool) (so next : Strung) (item : Item) (items : List Item) → Some next ≡ one_more so item → spelt literals so (item ∷ items) ≡ spelt literals next items
+unfolding spelt
+put-more literals so next item items e =
+    one_more-is literals so.elements so.last item items
+    ∙ ap (λ (r : Option Strung). option_and_then (λ (t : Strung). piece_pattern literals (spelled t items)) r) (sym e)
+
+pub put-stuck : (literals : Bool) (so : Strung) (item : Item) (items : List Item) → None ≡ one_more so item → spelt literals so (item ∷ items) ≡ None
+unfolding spelt
+put-stuck literals so item items e =
+    one_more-is literals so.elements so.last item items
+    ∙ ap (λ (r : Option Strung). option_and_then (λ (t : Strung). piece_pattern literals (spelled t items)) r) (sym e)
+
+pub put-start : (literals : Bool) (xs : List Element) (items : List Item) → [] ≡ xs → spelt literals (record { elements = xs; last = None }) items ≡ piece_pattern literals items
+unfolding spelt
+put-start literals xs items e = ap (λ (ys : List Element). piece_pattern literals (strung ys items)) (sym e)
+
+ends : (literals : Bool) (xs : List Element) (last : Option Element) → piece_pattern literals (strung xs (behind_last last [])) ≡ ended literals xs last
+ends literals xs None = wanted-end literals xs
+ends literals xs (Some x) = piece-end literals xs x
+
+pub put-end : (literals : Bool) (so : Strung) (items : List CodeItem) → length items ≡ 0 → spelt literals so (items_of items) ≡ ended literals so.elements so.last
+unfolding spelt
+put-end literals so [] none = ends literals so.elements so.last
+put-end literals so (item ∷ items) none = absurd (omega arith)
+
+pub ruleset piece_laws = (put-more, put-stuck, put-start)
 
 -- several elements
 pub group-several : (literals : Bool) (xs : List Element) → 2 ≤ length xs → group_pattern literals xs ≡ option_map (λ (qs : List Pattern). StrandPattern (patterns qs)) (each (element_pattern literals) xs)
