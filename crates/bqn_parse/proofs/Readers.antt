@@ -1,8 +1,8 @@
 -- A piece, item by item.
-use Rattle.std.proofs.Common.{◌≡◌, ◌<◌, List, [], ◌∷◌, ◌++◌, length, map, Option, Some, None, refl, sym, ap, ◌∙◌, arith}
+use Rattle.std.proofs.Common.{◌≡◌, ◌<◌, List, [], ◌∷◌, ◌++◌, length, Option, Some, None, sym, ap, arith}
 use Rattle.std.proofs.lemmas.List.{map-append}
 use Rattle.std.specs.Option.{option_map, option_and_then}
-use Rattle.bqn_syntax.specs.Items.{Element as Piece, Item, Term, Terms, Operand, Target, each, element_part, element_pattern, plain_term, aimed_term, put, puts}
+use Rattle.bqn_syntax.specs.Items.{Element as Piece, Item, Terms, Operand, Target, each, element_part, element_pattern, plain_term, aimed_term, put, puts}
 use Rattle.bqn_syntax.specs.Plain.{Part, Pattern, Strand, StrandPattern, parts, patterns}
 use Rattle.bqn_parse.specs.declared.item.Element.{Element}
 use Rattle.bqn_parse.specs.Strands.{elements_of}
