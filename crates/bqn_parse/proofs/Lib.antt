@@ -24,3 +24,7 @@ pub mod FoundHeadersItems
 pub mod FoundHeaders
 pub mod WalkedHeaders
 pub mod Found
+mod LastName
+mod Strands
+mod Readers
+mod Groups

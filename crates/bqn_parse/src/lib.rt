@@ -8,6 +8,7 @@ mod laws;
 mod parsing;
 mod pattern;
 mod pieces;
+mod strand;
 mod tags;
 mod term;
 mod terms;

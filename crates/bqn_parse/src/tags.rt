@@ -1,7 +1,8 @@
 ghost use Rattle.std.specs.Prelude.{◌≡◌};
-ghost use Rattle.bqn_syntax.specs.Sorts.{class_tag};
+ghost use Rattle.bqn_syntax.specs.Plain.{part_of, expr_of};
+ghost use Rattle.bqn_syntax.specs.Sorts.{class_tag, last_tag, tag, expr_tag};
 
-use bqn_syntax::{Class, Tag};
+use bqn_syntax::{Class, Expr, Part, Tag, Token};
 
 /// The role of a block of this class.
 pub fn tag_of_class(class: Class) -> Tag
@@ -12,5 +13,46 @@ pub fn tag_of_class(class: Class) -> Tag
         Class::Function => Tag::Function,
         Class::Mod1 | Class::Mod1Deferred => Tag::Mod1,
         Class::Mod2 | Class::Mod2Deferred => Tag::Mod2,
+    }
+}
+
+/// The role of a part that ends in these names.
+#[tactic(auto, using(crate::proofs::LastName::last_tag_at_end))]
+fn tag_of_last(names: &[Token]) -> Tag
+    ensures { result ≡ last_tag names.now }
+{
+    match names.last() {
+        None => Tag::Subject,
+        Some(name) => name.kind.tag(),
+    }
+}
+
+/// The role of a part. Parentheses pass on the role of what they hold, and a field has that of its
+/// last name.
+#[cycle(tag)]
+#[tactic(auto, using(bqn_syntax::specs::Levels::levels))]
+pub fn tag_of(part: &Part) -> Tag
+    ensures { result ≡ tag (part_of part.now) }
+{
+    match part {
+        Part::Leaf(token) => token.kind.tag(),
+        Part::List(_) | Part::Merge(_) | Part::Strand(_) => Tag::Subject,
+        Part::Paren(inner) => tag_of_expr(inner.get()),
+        Part::Block(block) => tag_of_class(block.get().class),
+        Part::Field { names, .. } => tag_of_last(names.list()),
+        Part::Nothing(_) => Tag::Nothing,
+    }
+}
+
+/// The role of an expression.
+#[cycle(tag)]
+#[tactic(auto, using(bqn_syntax::specs::Levels::levels))]
+fn tag_of_expr(expr: &Expr) -> Tag
+    ensures { result ≡ expr_tag (expr_of expr.now) }
+{
+    match expr {
+        Expr::Value { .. } => Tag::Subject,
+        Expr::Train { .. } => Tag::Function,
+        Expr::Modifier { part, .. } => tag_of(part),
     }
 }
