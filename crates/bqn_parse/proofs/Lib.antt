@@ -1,1 +1,3 @@
+pub mod SoundSigns
+pub mod SoundSorts
 pub mod TreeItems
