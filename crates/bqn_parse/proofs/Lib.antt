@@ -1,3 +1,4 @@
+pub mod SoundLevels
 pub mod SoundSigns
 pub mod SoundSorts
 pub mod TreeItems
