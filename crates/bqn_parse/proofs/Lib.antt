@@ -1,4 +1,6 @@
+pub mod SoundClean
 pub mod SoundLevels
+pub mod SoundMore
 pub mod SoundSigns
 pub mod SoundSorts
 pub mod TreeItems
