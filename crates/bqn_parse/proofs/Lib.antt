@@ -1,3 +1,4 @@
+pub mod SoundEnds
 pub mod SoundClean
 pub mod SoundLevels
 pub mod SoundMore
