@@ -1,4 +1,6 @@
 pub mod SoundEnds
+pub mod SoundGroups
+pub mod SoundItems
 pub mod SoundClean
 pub mod SoundLevels
 pub mod SoundMore

@@ -16,7 +16,7 @@ use Rattle.bqn_syntax.specs.Well.{WellExpr, WellPattern, WellStmt, expr_depth, p
 use Rattle.bqn_syntax.specs.Plain.{Pattern, Expr, Stmt}
 use Rattle.bqn_parse.proofs.TreeItems.{pattern_items, expr_items, GoodItems, ItemDepths}
 use Rattle.bqn_parse.proofs.SoundSigns.{items_signs, stmt_items, pattern_spelled, expr_spelled, stmt_spelled}
-use Rattle.bqn_parse.proofs.SoundLevels.{Pieces, Clean, nexts, by_apart, by_nothing, by_semicolon, lead, stmts_next, header_next, next_signs, end_signs, gap_in, Separable, in_block, in_header, literals_in, Kept, Read, Piece, Begins, At, Ended, fits_eq, into_gap}
+use Rattle.bqn_parse.proofs.SoundLevels.{Pieces, Suffix, suffix_more, Clean, nexts, by_apart, by_nothing, by_semicolon, lead, stmts_next, header_next, next_signs, end_signs, gap_in, Separable, in_block, in_header, literals_in, Kept, Read, Piece, Begins, At, Ended, fits_eq, into_gap}
 use Rattle.bqn_parse.proofs.SoundMore.{well_exprs, well_patterns, well_stmts, well_anywhere, exprs_deep, patterns_deep, stmts_deep, nexts_more, exprs_last, listed_last, stmts_last, stmts_more}
 use Rattle.bqn_parse.proofs.SoundClean.{expression_clean, statement_clean, pattern_clean}
 
@@ -39,12 +39,13 @@ by_gap inside.Parens w t ts k e x = elim w [ ]
 by_gap _ w t ts k e x = apart e x
 
 -- by what the signs of the piece are
-ended_of : (n : ℕ) (i : Inside) (l next : Level) (start first rest : List Token) (signs : List Sign → List Sign) → Read n i l start first → Kept n i next → next.items ≡ [] → next.first ≡ None → ((k : List Sign) → Fits k rest → Fits (signs k) first) → ((k : List Sign) → next_signs i l (signs (gap_in i k)) ≡ end_signs i next k) → (Separable i → (k : List Sign) → next_signs i l (signs (Apart ∷ Gap ∷ k)) ≡ next_signs i next k) → Ended n i next start rest
-ended_of n i l next start first rest signs r kept bare idle spelled at_end at_next =
+ended_of : (n : ℕ) (i : Inside) (l next : Level) (start first rest : List Token) (signs : List Sign → List Sign) → Read n i l start first → Suffix first rest → Kept n i next → next.items ≡ [] → next.first ≡ None → ((k : List Sign) → Fits k rest → Fits (signs k) first) → ((k : List Sign) → next_signs i l (signs (gap_in i k)) ≡ end_signs i next k) → (Separable i → (k : List Sign) → next_signs i l (signs (Apart ∷ Gap ∷ k)) ≡ next_signs i next k) → Ended n i next start rest
+ended_of n i l next start first rest signs r behind kept bare idle spelled at_end at_next =
     record {
       kept = kept;
       last = λ (k : List Sign) (x : Fits (gap_in i k) rest). fits_eq (at_end k) (r.next (signs (gap_in i k)) (into_gap i (signs (gap_in i k)) first (spelled (gap_in i k) x)));
       onward = λ (w : Separable i) (t : Token) (more : List Token) (e : rest ≡ t ∷ more) (s : sort_of t.kind ≡ Separates) (k : List Sign) (x : Fits (gap_in i k) more). fits_eq (at_next w k) (r.next (signs (Apart ∷ Gap ∷ k)) (into_gap i (signs (Apart ∷ Gap ∷ k)) first (spelled (Apart ∷ Gap ∷ k) (subst (λ (ts : List Token). Fits (Apart ∷ Gap ∷ k) ts) (sym e) (by_gap i w t more k s x)))));
+      behind = suffix_more start first rest r.behind behind;
       bare = bare;
       idle = idle;
     }
@@ -102,7 +103,7 @@ expression_ended ps n i l next start first rest place p plain at_end at_next h =
     let w = ps.expression_only l.items m.0 (subst (λ (b : Bool). GoodItems b l.items) plain p.good) m.1 in
     let d = ps.expr_depths n m.0 (subst (λ (is : List Item). ItemDepths n is) (sym w.0) p.deep) in
     let spelled = λ (k : List Sign) (x : Fits k rest). fits_eq (ap (λ (is : List Item). items_signs is k) (sym w.0) ∙ expr_spelled m.0 k) (p.spelled (expression_clean l.items m.0 m.1) k x) in
-    subst (λ (y : Level). From n l y start rest i) m.2 (record { ended = ended_of n i l (and_expression m.0 l) start first rest (expr_signs m.0) p.read (kept_expression n i l m.0 p.read.kept w.1 d) refl refl spelled (at_end m.0) (λ (u : Separable i). at_next u m.0); inside = refl; opened = refl })
+    subst (λ (y : Level). From n l y start rest i) m.2 (record { ended = ended_of n i l (and_expression m.0 l) start first rest (expr_signs m.0) p.read p.behind (kept_expression n i l m.0 p.read.kept w.1 d) refl refl spelled (at_end m.0) (λ (u : Separable i). at_next u m.0); inside = refl; opened = refl })
 
 target_ended : (ps : Pieces) (n : ℕ) (i : Inside) (l next : Level) (start first rest : List Token) (place : Place) → Piece n false i l start first rest → literals_in i false ≡ in_header i → ((q : Pattern) (k : List Sign) → next_signs i l (pattern_signs q (gap_in i k)) ≡ end_signs i (and_target q l) k) → (Separable i → (q : Pattern) (k : List Sign) → next_signs i l (pattern_signs q (Apart ∷ Gap ∷ k)) ≡ next_signs i (and_target q l) k) → well place and_target (piece_pattern (in_header i) l.items) l ≡ Ok next → From n l next start rest i
 target_ended ps n i l next start first rest place p plain at_end at_next h =
@@ -110,7 +111,7 @@ target_ended ps n i l next start first rest place p plain at_end at_next h =
     let w = ps.pattern_only (in_header i) l.items m.0 (subst (λ (b : Bool). GoodItems b l.items) plain p.good) m.1 in
     let d = ps.pattern_depths n m.0 (subst (λ (is : List Item). ItemDepths n is) (sym w.0) p.deep) in
     let spelled = λ (k : List Sign) (x : Fits k rest). fits_eq (ap (λ (is : List Item). items_signs is k) (sym w.0) ∙ pattern_spelled m.0 k) (p.spelled (pattern_clean (in_header i) l.items m.0 m.1) k x) in
-    subst (λ (y : Level). From n l y start rest i) m.2 (record { ended = ended_of n i l (and_target m.0 l) start first rest (pattern_signs m.0) p.read (kept_target n i l m.0 p.read.kept w.1 d) refl refl spelled (at_end m.0) (λ (u : Separable i). at_next u m.0); inside = refl; opened = refl })
+    subst (λ (y : Level). From n l y start rest i) m.2 (record { ended = ended_of n i l (and_target m.0 l) start first rest (pattern_signs m.0) p.read p.behind (kept_target n i l m.0 p.read.kept w.1 d) refl refl spelled (at_end m.0) (λ (u : Separable i). at_next u m.0); inside = refl; opened = refl })
 
 well_here : (b : Bool) (s : Stmt) → is_predicate s ≡ false → WellStmt false s → WellStmt b s
 well_here true s p w = well_anywhere s p w
@@ -123,7 +124,7 @@ statement_ended ps n i l next start first rest place p plain at_end at_next h =
     let w = ps.statement_only l.items m.0 (subst (λ (b : Bool). GoodItems b l.items) plain p.good) m.1 in
     let d = ps.stmt_depths n m.0 (subst (λ (is : List Item). ItemDepths n is) (sym w.0) p.deep) in
     let spelled = λ (k : List Sign) (x : Fits k rest). fits_eq (ap (λ (is : List Item). items_signs is k) (sym w.0) ∙ stmt_spelled m.0 k w.2) (p.spelled (statement_clean l.items m.0 m.1) k x) in
-    subst (λ (y : Level). From n l y start rest i) m.2 (record { ended = ended_of n i l (and_statement m.0 l) start first rest (stmt_signs m.0) p.read (kept_statement n i l m.0 p.read.kept (well_here (in_block i) m.0 w.2 w.1) d) refl refl spelled (at_end m.0 w.2) (λ (u : Separable i). at_next m.0 w.2); inside = refl; opened = refl })
+    subst (λ (y : Level). From n l y start rest i) m.2 (record { ended = ended_of n i l (and_statement m.0 l) start first rest (stmt_signs m.0) p.read p.behind (kept_statement n i l m.0 p.read.kept (well_here (in_block i) m.0 w.2 w.1) d) refl refl spelled (at_end m.0 w.2) (λ (u : Separable i). at_next m.0 w.2); inside = refl; opened = refl })
 
 stmt_onward : (ss : List Stmt) (s : Stmt) → is_predicate s ≡ false → (k : List Sign) → stmts_next true ss (stmt_signs s (Apart ∷ Gap ∷ k)) ≡ stmts_next true (ss ++ s ∷ []) k
 stmt_onward ss s p k = ap (λ (b : Bool). stmts_next true ss (stmt_signs s (lead b k))) (sym p) ∙ sym (stmts_more true ss s k)
@@ -149,6 +150,7 @@ nothing_ended n i l start rest r bare idle =
         kept = r.kept;
         last = r.last;
         onward = λ (w : Separable i) (t : Token) (more : List Token) (e : rest ≡ t ∷ more) (s : sort_of t.kind ≡ Separates) (k : List Sign) (x : Fits (gap_in i k) more). r.next k (subst (λ (ts : List Token). Fits (gap_in i k) ts) (sym e) (more_gap i w t more k s x));
+        behind = r.behind;
         bare = bare;
         idle = idle;
       };

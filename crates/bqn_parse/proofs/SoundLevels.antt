@@ -1,5 +1,5 @@
 -- What the walk keeps of the level that it reads and of those around it.
-use Rattle.std.proofs.Common.{◌≡◌, ◌≤◌, ℕ, zero, suc, Bool, true, false, List, [], ◌∷◌, ◌++◌, Option, Some, None, refl, sym, ap, ◌∙◌, subst, arith}
+use Rattle.std.proofs.Common.{◌≡◌, ◌≤◌, ℕ, zero, suc, Bool, true, false, List, [], ◌∷◌, ◌++◌, Option, Some, None, refl, sym, ap, ◌∙◌, subst, append_assoc, arith}
 use Rattle.bqn_base.specs.declared.place.Place.{Place}
 use Rattle.bqn_syntax.specs.declared.token.Token.{Token}
 use Rattle.bqn_syntax.specs.declared.token.Kind.TheVariants as kind
@@ -47,6 +47,20 @@ pub record Pieces : Type 0 where
   pub stmt_depths : (n : ℕ) (s : Stmt) → ItemDepths n (stmt_items s) → stmt_depth s ≤ n
   pub pattern_depths : (n : ℕ) (q : Pattern) → ItemDepths n (pattern_items q) → pattern_depth q ≤ n
   pub header_only : (n : ℕ) (tokens rest : List Token) (h : Header) → header_in tokens ≡ Some h → HeaderOnly n tokens rest h
+
+-- one token list is the end of another
+pub record Suffix (whole rest : List Token) : Type 0 where
+  pub part : List Token
+  pub split : whole ≡ part ++ rest
+
+pub suffix_all : (whole : List Token) → Suffix whole whole
+suffix_all whole = record { part = []; split = refl }
+
+pub suffix_one : (t : Token) (rest : List Token) → Suffix (t ∷ rest) rest
+suffix_one t rest = record { part = t ∷ []; split = refl }
+
+pub suffix_more : (whole middle rest : List Token) → Suffix whole middle → Suffix middle rest → Suffix whole rest
+suffix_more whole middle rest a b = record { part = a.part ++ b.part; split = a.split ∙ ap (λ (ts : List Token). a.part ++ ts) b.split ∙ sym (append_assoc a.part b.part rest) }
 
 -- No item is wrong.
 
@@ -147,6 +161,7 @@ pub record Read (n : ℕ) (i : Inside) (l : Level) (start here : List Token) : T
   pub next : (k : List Sign) → Fits (gap_in i k) here → Fits (next_signs i l k) start
   pub last : (k : List Sign) → Fits (gap_in i k) here → Fits (end_signs i l k) start
   pub room : Within here n
+  pub behind : Suffix start here
 
 -- the piece that is being read, from its first token to the rest
 pub record Piece (n : ℕ) (colon : Bool) (i : Inside) (l : Level) (start first rest : List Token) : Type 0 where
@@ -154,8 +169,7 @@ pub record Piece (n : ℕ) (colon : Bool) (i : Inside) (l : Level) (start first 
   pub good : GoodItems (literals_in i colon) l.items
   pub deep : ItemDepths n l.items
   pub spelled : Clean l.items → (k : List Sign) → Fits k rest → Fits (items_signs l.items k) first
-  pub tokens : List Token
-  pub split : first ≡ tokens ++ rest
+  pub behind : Suffix first rest
 
 -- where the piece begins
 abbrev pub Begins : List Item → Option (List Token) → (first rest : List Token) → Type 0
@@ -207,6 +221,7 @@ pub record Ended (n : ℕ) (i : Inside) (l : Level) (start rest : List Token) : 
   pub kept : Kept n i l
   pub last : (k : List Sign) → Fits (gap_in i k) rest → Fits (end_signs i l k) start
   pub onward : Separable i → (t : Token) (more : List Token) → rest ≡ t ∷ more → sort_of t.kind ≡ Separates → (k : List Sign) → Fits (gap_in i k) more → Fits (next_signs i l k) start
+  pub behind : Suffix start rest
   pub bare : l.items ≡ []
   pub idle : l.first ≡ None
 
