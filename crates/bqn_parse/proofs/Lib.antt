@@ -1,9 +1,11 @@
 pub mod SoundEnds
 pub mod SoundGroups
 pub mod SoundItems
+pub mod SoundBrackets
 pub mod SoundClean
 pub mod SoundLevels
 pub mod SoundMore
 pub mod SoundSigns
 pub mod SoundSorts
+pub mod SoundSteps
 pub mod TreeItems

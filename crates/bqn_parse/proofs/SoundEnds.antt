@@ -30,7 +30,7 @@ pub record From (n : ℕ) (l next : Level) (start rest : List Token) (i : Inside
   pub inside : next.inside ≡ l.inside
   pub opened : next.opened ≡ l.opened
 
-more_gap : (i : Inside) → Separable i → (t : Token) (ts : List Token) (k : List Sign) → sort_of t.kind ≡ Separates → Fits (gap_in i k) ts → Fits (gap_in i k) (t ∷ ts)
+pub more_gap : (i : Inside) → Separable i → (t : Token) (ts : List Token) (k : List Sign) → sort_of t.kind ≡ Separates → Fits (gap_in i k) ts → Fits (gap_in i k) (t ∷ ts)
 more_gap inside.Parens w t ts k e x = elim w [ ]
 more_gap _ w t ts k e x = one_more e x
 
