@@ -1,11 +1,14 @@
 pub mod SoundEnds
 pub mod SoundGroups
 pub mod SoundItems
+pub mod SoundBodies
 pub mod SoundBrackets
 pub mod SoundClean
 pub mod SoundLevels
 pub mod SoundMore
+pub mod SoundRoom
 pub mod SoundSigns
 pub mod SoundSorts
 pub mod SoundSteps
+pub mod SoundWalk
 pub mod TreeItems

@@ -43,19 +43,19 @@ taken_step all n c l so next start t rest item at same around s h =
 zero_le : (n : ℕ) → 0 ≤ n
 zero_le n = omega arith
 
-leaf_spelling : (n : ℕ) (literals : Bool) (t : Token) (rest : List Token) → sort_of t.kind ≡ Stands → Spelling n literals (Standing (OfPart (Leaf t))) (t ∷ rest) rest
+pub leaf_spelling : (n : ℕ) (literals : Bool) (t : Token) (rest : List Token) → sort_of t.kind ≡ Stands → Spelling n literals (Standing (OfPart (Leaf t))) (t ∷ rest) rest
 leaf_spelling n literals t rest e = record { good = (tt, e); deep = zero_le n; fits = λ (clean : CleanItem (Standing (OfPart (Leaf t)))) (k : List Sign) (x : Fits k rest). exact x; behind = suffix_one t rest }
 
-skip_spelling : (n : ℕ) (literals : Bool) (t : Token) (rest : List Token) → sort_of t.kind ≡ Skips → Spelling n literals (Standing (OfPart (Nothing t.place))) (t ∷ rest) rest
+pub skip_spelling : (n : ℕ) (literals : Bool) (t : Token) (rest : List Token) → sort_of t.kind ≡ Skips → Spelling n literals (Standing (OfPart (Nothing t.place))) (t ∷ rest) rest
 skip_spelling n literals t rest e = record { good = (tt, tt); deep = zero_le n; fits = λ (clean : CleanItem (Standing (OfPart (Nothing t.place)))) (k : List Sign) (x : Fits k rest). subst (λ (u : Token). Fits (Exact (mark_at 183 t.place) ∷ k) (u ∷ rest)) (sym (token_at t 183 (mark_of t.kind Skips e tt))) (exact x); behind = suffix_one t rest }
 
-drawn_spelling : (n : ℕ) (literals : Bool) (a : Arrow) (t : Token) (rest : List Token) → sort_of t.kind ≡ Draws a → Spelling n literals (Drawn a) (t ∷ rest) rest
+pub drawn_spelling : (n : ℕ) (literals : Bool) (a : Arrow) (t : Token) (rest : List Token) → sort_of t.kind ≡ Draws a → Spelling n literals (Drawn a) (t ∷ rest) rest
 drawn_spelling n literals a t rest e = record { good = tt; deep = tt; fits = λ (clean : CleanItem (Drawn a)) (k : List Sign) (x : Fits k rest). mark (mark_of t.kind (Draws a) e tt) x; behind = suffix_one t rest }
 
-joins_spelling : (n : ℕ) (literals : Bool) (t : Token) (rest : List Token) → sort_of t.kind ≡ Joins → Spelling n literals Joining (t ∷ rest) rest
+pub joins_spelling : (n : ℕ) (literals : Bool) (t : Token) (rest : List Token) → sort_of t.kind ≡ Joins → Spelling n literals Joining (t ∷ rest) rest
 joins_spelling n literals t rest e = record { good = tt; deep = tt; fits = λ (clean : CleanItem Joining) (k : List Sign) (x : Fits k rest). mark (mark_of t.kind Joins e tt) x; behind = suffix_one t rest }
 
-selects_spelling : (n : ℕ) (literals : Bool) (t : Token) (rest : List Token) → sort_of t.kind ≡ Selects → Spelling n literals Selecting (t ∷ rest) rest
+pub selects_spelling : (n : ℕ) (literals : Bool) (t : Token) (rest : List Token) → sort_of t.kind ≡ Selects → Spelling n literals Selecting (t ∷ rest) rest
 selects_spelling n literals t rest e = record { good = tt; deep = tt; fits = λ (clean : CleanItem Selecting) (k : List Sign) (x : Fits k rest). mark (mark_of t.kind Selects e tt) x; behind = suffix_one t rest }
 
 wrong_spelling : (n : ℕ) (literals : Bool) (t : Token) (rest : List Token) → Spelling n literals Wrong (t ∷ rest) rest
