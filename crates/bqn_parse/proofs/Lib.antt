@@ -1,9 +1,11 @@
-pub mod SoundEnds
-pub mod SoundGroups
-pub mod SoundItems
 pub mod SoundBodies
 pub mod SoundBrackets
 pub mod SoundClean
+pub mod SoundEnds
+pub mod SoundForms
+pub mod SoundGroups
+pub mod SoundHeaders
+pub mod SoundItems
 pub mod SoundLevels
 pub mod SoundMore
 pub mod SoundRoom

@@ -25,6 +25,7 @@ use Rattle.bqn_parse.proofs.SoundMore.{nexts_more, stmts_last, stmts_more}
 use Rattle.bqn_parse.proofs.SoundClean.{predicate_clean}
 use Rattle.bqn_parse.proofs.SoundEnds.{From, well_some, kept_statement, ended_only}
 use Rattle.bqn_parse.proofs.SoundGroups.{body_well, body_deep, body_end}
+use Rattle.bqn_parse.proofs.SoundHeaders.{header_only}
 use Rattle.bqn_parse.proofs.SoundSteps.{Stepped, wrong_step, waiting, state_on, go_on_ok}
 
 -- A body ends.
@@ -154,8 +155,8 @@ front_length a b = omega (arith, length-append a b)
 before_is : (part rest : List Token) → before (part ++ rest) rest ≡ part
 before_is part rest = take_at part rest (length (part ++ rest) - length rest) (front_length part rest)
 
-header_kept : (n : ℕ) (l : Level) (h : Header) (tokens rest : List Token) → Kept n inside.Block l → HeaderOnly n tokens rest h → Within (tokens ++ rest) n → Kept n inside.Block (and_header h l)
-header_kept n l h tokens rest r o w = record { expressions = r.expressions; targets = r.targets; header = o.well; statements = r.statements; done = r.done; expressions_depth = r.expressions_depth; targets_depth = r.targets_depth; header_depth = o.depth w; statements_depth = r.statements_depth; done_depth = r.done_depth }
+header_kept : (n : ℕ) (l : Level) (h : Header) (tokens rest : List Token) → Kept n inside.Block l → HeaderOnly n tokens rest h → Kept n inside.Block (and_header h l)
+header_kept n l h tokens rest r o = record { expressions = r.expressions; targets = r.targets; header = o.well; statements = r.statements; done = r.done; expressions_depth = r.expressions_depth; targets_depth = r.targets_depth; header_depth = o.depth; statements_depth = r.statements_depth; done_depth = r.done_depth }
 
 -- a header is what is read first
 head_from : (l : Level) (k : List Sign) → l.header ≡ None → l.statements ≡ [] → next_signs inside.Block l k ≡ nexts body_signs by_semicolon l.done (Gap ∷ k)
@@ -172,11 +173,11 @@ header_read ps n l next start first t rest x p b c room =
     let whole = p.behind.split in
     let part = p.behind.part in
     let found : header_in part ≡ Some x.header = ap header_in (sym (before_is part (t ∷ rest))) ∙ ap (λ (f : Option (List Token)). header_in (tokens_before f (t ∷ rest))) (sym (b ∙ ap (λ (ts : List Token). Some ts) whole)) ∙ x.found in
-    let o = ps.header_only n part (t ∷ rest) x.header found in
+    let o = header_only ps n part (t ∷ rest) x.header found (subst (λ (ts : List Token). Within ts n) whole p.read.room) in
     let h = x.header in
     let fits : (k : List Sign) → Fits (Gap ∷ k) rest → Fits (nexts body_signs by_semicolon l.done (Gap ∷ header_signs h (Mark 58 ∷ Gap ∷ k))) start = λ k y. fits_eq (head_from l (header_signs h (Mark 58 ∷ Gap ∷ k)) x.no_header x.no_statements) (p.read.next (header_signs h (Mark 58 ∷ Gap ∷ k)) (no_more (subst (λ (ts : List Token). Fits (header_signs h (Mark 58 ∷ Gap ∷ k)) ts) (sym whole) (o.spelled (Mark 58 ∷ Gap ∷ k) (mark c y))))) in
     record {
-      kept = header_kept n l h part (t ∷ rest) p.read.kept o (subst (λ (ts : List Token). Within ts n) whole p.read.room);
+      kept = header_kept n l h part (t ∷ rest) p.read.kept o;
       next = λ (k : List Sign) (y : Fits (gap_in inside.Block k) rest). fits_eq (head_next l h k x.no_statements) (fits k y);
       last = λ (k : List Sign) (y : Fits (gap_in inside.Block k) rest). fits_eq (head_last l h k x.no_statements) (fits k y);
       room = room;

@@ -36,7 +36,7 @@ statement_clean items s h = units_clean items statement s h
 pub predicate_clean : (items : List Item) (s : Stmt) → piece_predicate items ≡ Some s → Clean items
 predicate_clean items s h = let m = and_then_some predicate (piece_expression items) s h in expression_clean items m.0 m.1
 
-onto_first_some : (x : Element) (m : Option (List (List Element))) (gs : List (List Element)) → onto_first x m ≡ Some gs → (ys : List (List Element)) × (m ≡ Some ys)
+pub onto_first_some : (x : Element) (m : Option (List (List Element))) (gs : List (List Element)) → onto_first x m ≡ Some gs → (ys : List (List Element)) × (m ≡ Some ys)
 onto_first_some x None gs e = absurd (cc)
 onto_first_some x (Some []) gs e = absurd (cc)
 onto_first_some x (Some (y ∷ ys)) gs e = (y ∷ ys, refl)

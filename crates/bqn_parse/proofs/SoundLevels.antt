@@ -35,7 +35,7 @@ Within (t ∷ ts) n = WithinAt (sort_of t.kind) (Within ts) n
 pub record HeaderOnly (n : ℕ) (tokens rest : List Token) (h : Header) : Type 0 where
   pub well : WellHeader h
   pub spelled : (k : List Sign) → Fits k rest → Fits (header_signs h k) (tokens ++ rest)
-  pub depth : Within (tokens ++ rest) n → header_depth (Some h) ≤ n
+  pub depth : header_depth (Some h) ≤ n
 
 -- what is known of one piece
 pub record Pieces : Type 0 where
@@ -46,7 +46,6 @@ pub record Pieces : Type 0 where
   pub expr_depths : (n : ℕ) (e : Expr) → ItemDepths n (expr_items e) → expr_depth e ≤ n
   pub stmt_depths : (n : ℕ) (s : Stmt) → ItemDepths n (stmt_items s) → stmt_depth s ≤ n
   pub pattern_depths : (n : ℕ) (q : Pattern) → ItemDepths n (pattern_items q) → pattern_depth q ≤ n
-  pub header_only : (n : ℕ) (tokens rest : List Token) (h : Header) → header_in tokens ≡ Some h → HeaderOnly n tokens rest h
 
 -- one token list is the end of another
 pub record Suffix (whole rest : List Token) : Type 0 where
