@@ -68,7 +68,7 @@ whole_ok x = Ok x
 group_eq : (n : ℕ) (literals : Bool) (x y : Element) (before rest : List Token) → Group n literals x before rest → whole_ok x ≡ Ok y → Group n literals y before rest
 group_eq n literals x y before rest g e = let same : x ≡ y = cc in subst (λ (z : Element). Group n literals z before rest) same g
 
-suc_le : (a n : ℕ) → a ≤ n → 1 + a ≤ suc n
+pub suc_le : (a n : ℕ) → a ≤ n → 1 + a ≤ suc n
 suc_le a n h = omega arith
 
 parens_group : (n : ℕ) (literals : Bool) (es : List Expr) (place : Place) (x : Element) (bracket : Token) (before rest : List Token) → WellExprs (exprs es) → exprs_depth (exprs es) ≤ n → bracket.kind ≡ kind.Punct 40 → ((k : List Sign) → Fits k rest → Fits (nexts expr_signs by_nothing es (Mark 41 ∷ k)) before) → parens_part place es ≡ Ok x → Group (suc n) literals x (bracket ∷ before) rest

@@ -46,11 +46,11 @@ read_with n i l start here first items r =
       behind = r.behind;
     }
 
-good_more : (literals : Bool) (items : List Item) (item : Item) → GoodItems literals items → GoodItem literals item → GoodItems literals (items ++ item ∷ [])
+pub good_more : (literals : Bool) (items : List Item) (item : Item) → GoodItems literals items → GoodItem literals item → GoodItems literals (items ++ item ∷ [])
 good_more literals [] item g x = (x, tt)
 good_more literals (i ∷ items) item g x = (g.0, good_more literals items item g.1 x)
 
-deep_more : (n : ℕ) (items : List Item) (item : Item) → ItemDepths n items → ItemDepth n item → ItemDepths n (items ++ item ∷ [])
+pub deep_more : (n : ℕ) (items : List Item) (item : Item) → ItemDepths n items → ItemDepth n item → ItemDepths n (items ++ item ∷ [])
 deep_more n [] item g x = (x, tt)
 deep_more n (i ∷ items) item g x = (g.0, deep_more n items item g.1 x)
 

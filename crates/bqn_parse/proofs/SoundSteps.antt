@@ -40,7 +40,7 @@ taken_step all n c l so next start t rest item at same around s h =
     let e : levels (and_item item (begun (t ∷ rest) so.level)) so.outer ≡ next = cc in
     subst (λ (y : Levels). Stepped all l y rest) e (record { room = n; state = record { start = start; at = taken_only n c l.here.colon so.level.inside so.level start (t ∷ rest) rest item at same s; around = around } })
 
-zero_le : (n : ℕ) → 0 ≤ n
+pub zero_le : (n : ℕ) → 0 ≤ n
 zero_le n = omega arith
 
 pub leaf_spelling : (n : ℕ) (literals : Bool) (t : Token) (rest : List Token) → sort_of t.kind ≡ Stands → Spelling n literals (Standing (OfPart (Leaf t))) (t ∷ rest) rest
