@@ -1,5 +1,5 @@
 -- The marks between the parts of a block: `;`, `?` and `:`.
-use Rattle.std.proofs.Common.{◌≡◌, ◌≤◌, ℕ, ◌-◌, zero, suc, Bool, true, false, List, [], ◌∷◌, ◌++◌, length, take, Option, Some, None, Result, Ok, Err, refl, sym, ap, ◌∙◌, subst, arith}
+use Rattle.std.proofs.Common.{◌≡◌, ℕ, ◌-◌, Bool, true, false, List, [], ◌∷◌, ◌++◌, length, Option, Some, None, Result, Ok, Err, refl, sym, ap, ◌∙◌, subst, arith}
 use Rattle.std.proofs.lemmas.List.{take_at, length-append}
 use Rattle.bqn_base.specs.declared.place.Place.{Place}
 use Rattle.bqn_base.specs.declared.refusal.Refusal.{Refusal}
@@ -9,21 +9,21 @@ use Rattle.bqn_syntax.specs.declared.sort.Sort.TheVariants.{Ends, Heads, Asks}
 use Rattle.bqn_syntax.specs.declared.sort.Inside.{Inside}
 use Rattle.bqn_syntax.specs.declared.sort.Inside.TheVariants as inside
 use Rattle.bqn_syntax.specs.Sorts.{sort_of}
-use Rattle.bqn_syntax.specs.Looks.{Ahead, Looks}
-use Rattle.bqn_syntax.specs.Items.{Item, Wrong}
+use Rattle.bqn_syntax.specs.Looks.{Looks}
+use Rattle.bqn_syntax.specs.Items.{Item}
 use Rattle.bqn_syntax.specs.Expressions.{piece_predicate}
 use Rattle.bqn_syntax.specs.Headers.{header_in}
 use Rattle.bqn_syntax.specs.Classes.{is_predicate}
 use Rattle.bqn_syntax.specs.Parsing.{Level, Levels, levels, and_statement, and_header, and_body, is_first_piece, go_on, ended, body_ended, semicolon, asked, question, before, tokens_before, known_header, headed, headed_by, colon}
 use Rattle.bqn_syntax.specs.Spells.{Sign, Mark, Gap, Fits, mark, no_more, header_signs, stmt_signs, stmts_signs, body_signs}
-use Rattle.bqn_syntax.specs.Plain.{Header, Stmt, stmts, BodyTree, body}
-use Rattle.bqn_parse.proofs.TreeItems.{GoodItems, ItemDepths}
-use Rattle.bqn_parse.proofs.SoundSigns.{items_signs, stmt_items, predicate_spelled}
+use Rattle.bqn_syntax.specs.Plain.{Header, Stmt, stmts, body}
+use Rattle.bqn_parse.proofs.TreeItems.{ItemDepths}
+use Rattle.bqn_parse.proofs.SoundSigns.{items_signs, predicate_spelled}
 use Rattle.bqn_parse.proofs.SoundSorts.{mark_of}
-use Rattle.bqn_parse.proofs.SoundLevels.{Pieces, HeaderOnly, Within, Suffix, suffix_one, suffix_more, Clean, nexts, by_semicolon, lead, stmts_next, header_next, next_signs, end_signs, gap_in, literals_in, in_block, Kept, Read, Piece, Begins, At, Around, State, Ended, fits_eq}
+use Rattle.bqn_parse.proofs.SoundLevels.{Pieces, HeaderOnly, Within, suffix_one, suffix_more, nexts, by_semicolon, lead, stmts_next, header_next, next_signs, end_signs, gap_in, Kept, Read, Piece, Begins, At, Around, State, Ended, fits_eq}
 use Rattle.bqn_parse.proofs.SoundMore.{nexts_more, stmts_last, stmts_more}
 use Rattle.bqn_parse.proofs.SoundClean.{predicate_clean}
-use Rattle.bqn_parse.proofs.SoundEnds.{From, well_some, kept_statement, ended_only}
+use Rattle.bqn_parse.proofs.SoundEnds.{well_some, kept_statement, ended_only}
 use Rattle.bqn_parse.proofs.SoundGroups.{body_well, body_deep, body_end}
 use Rattle.bqn_parse.proofs.SoundHeaders.{header_only}
 use Rattle.bqn_parse.proofs.SoundSteps.{Stepped, wrong_step, waiting, state_on, go_on_ok}

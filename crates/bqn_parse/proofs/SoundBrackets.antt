@@ -1,5 +1,5 @@
 -- A bracket that opens or closes.
-use Rattle.std.proofs.Common.{◌≡◌, ◌≤◌, ℕ, zero, suc, Bool, true, false, List, [], ◌∷◌, ◌++◌, length, Option, Some, None, Result, Ok, Err, nat_lt, if◌then◌else◌, refl, sym, ap, ◌∙◌, subst, arith}
+use Rattle.std.proofs.Common.{◌≡◌, ℕ, zero, suc, Bool, true, false, List, [], ◌∷◌, length, Result, Ok, Err, nat_lt, if◌then◌else◌, refl, sym, ap, ◌∙◌, subst, arith}
 use Rattle.bqn_base.specs.declared.place.Place.{Place}
 use Rattle.bqn_base.specs.declared.refusal.Refusal.{Refusal}
 use Rattle.bqn_syntax.specs.declared.token.Token.{Token}
@@ -10,17 +10,16 @@ use Rattle.bqn_syntax.specs.declared.sort.Sort.TheVariants.{Opens, Closes}
 use Rattle.bqn_syntax.specs.declared.sort.Inside.{Inside}
 use Rattle.bqn_syntax.specs.declared.sort.Inside.TheVariants as inside
 use Rattle.bqn_syntax.specs.Sorts.{sort_of}
-use Rattle.bqn_syntax.specs.Looks.{Ahead, Looks, looks, ahead, first_of, rest_of}
-use Rattle.bqn_syntax.specs.Items.{Element, Item, Standing}
+use Rattle.bqn_syntax.specs.Looks.{Ahead, Looks, first_of, rest_of}
+use Rattle.bqn_syntax.specs.Items.{Element, Standing}
 use Rattle.bqn_syntax.specs.Parsing.{Level, Levels, levels, fresh, begun, and_item, is_first_piece, list_inside, inside_of, closes, whole, whole_of, handed, opened, closed, ended}
 use Rattle.bqn_base.specs.declared.refusal.Refusal.TheVariants as refusal
 use Rattle.bqn_syntax.specs.Spells.{Sign, Fits, no_more}
-use Rattle.bqn_parse.proofs.SoundSigns.{element_signs}
 use Rattle.bqn_parse.proofs.SoundSorts.{mark_of, token_at}
-use Rattle.bqn_parse.proofs.SoundLevels.{Pieces, Within, WithinAt, Suffix, suffix_all, suffix_one, suffix_more, CleanItem, literals_in, gap_in, next_signs, end_signs, in_header, in_block, Kept, Read, At, Outer, OpenedBy, ListMay, Opening, Around, State, Ended}
-use Rattle.bqn_parse.proofs.SoundEnds.{From, ended_only}
+use Rattle.bqn_parse.proofs.SoundLevels.{Pieces, Within, WithinAt, suffix_all, suffix_one, suffix_more, CleanItem, literals_in, gap_in, next_signs, end_signs, Kept, At, OpenedBy, ListMay, Around}
+use Rattle.bqn_parse.proofs.SoundEnds.{ended_only}
 use Rattle.bqn_parse.proofs.SoundItems.{Spelling, handed_only, outer_only}
-use Rattle.bqn_parse.proofs.SoundGroups.{Group, close_code, closing_code, whole_only}
+use Rattle.bqn_parse.proofs.SoundGroups.{closing_code, whole_only}
 use Rattle.bqn_parse.proofs.SoundSteps.{Stepped, waiting}
 
 -- Opening.

@@ -1,7 +1,6 @@
 -- A piece that ends is one more of its level.
-use Rattle.std.proofs.Common.{◌≡◌, ◌≤◌, ℕ, Bool, true, false, List, [], ◌∷◌, ◌++◌, Option, Some, None, Result, Ok, Err, refl, sym, ap, ◌∙◌, subst}
+use Rattle.std.proofs.Common.{◌≡◌, ◌≤◌, ℕ, Bool, true, false, List, [], ◌∷◌, ◌++◌, Option, Some, None, Ok, refl, sym, ap, ◌∙◌, subst}
 use Rattle.bqn_base.specs.declared.place.Place.{Place}
-use Rattle.bqn_base.specs.declared.refusal.Refusal.{Refusal}
 use Rattle.bqn_syntax.specs.declared.token.Token.{Token}
 use Rattle.bqn_syntax.specs.declared.sort.Sort.TheVariants.{Separates}
 use Rattle.bqn_syntax.specs.declared.sort.Inside.{Inside}
@@ -11,12 +10,12 @@ use Rattle.bqn_syntax.specs.Items.{Item, piece_pattern}
 use Rattle.bqn_syntax.specs.Expressions.{piece_expression, piece_statement}
 use Rattle.bqn_syntax.specs.Classes.{is_predicate}
 use Rattle.bqn_syntax.specs.Parsing.{Level, and_expression, and_target, and_statement, well, judged, no_piece, ended_by, ended}
-use Rattle.bqn_syntax.specs.Spells.{Sign, Mark, Apart, Gap, Fits, apart, one_more, no_more, pattern_signs, expr_signs, stmt_signs, body_signs}
+use Rattle.bqn_syntax.specs.Spells.{Sign, Apart, Gap, Fits, apart, one_more, pattern_signs, expr_signs, stmt_signs, body_signs}
 use Rattle.bqn_syntax.specs.Well.{WellExpr, WellPattern, WellStmt, expr_depth, pattern_depth, stmt_depth}
 use Rattle.bqn_syntax.specs.Plain.{Pattern, Expr, Stmt}
-use Rattle.bqn_parse.proofs.TreeItems.{pattern_items, expr_items, GoodItems, ItemDepths}
-use Rattle.bqn_parse.proofs.SoundSigns.{items_signs, stmt_items, pattern_spelled, expr_spelled, stmt_spelled}
-use Rattle.bqn_parse.proofs.SoundLevels.{Pieces, Suffix, suffix_more, Clean, nexts, by_apart, by_nothing, by_semicolon, lead, stmts_next, header_next, next_signs, end_signs, gap_in, Separable, in_block, in_header, literals_in, Kept, Read, Piece, Begins, At, Ended, fits_eq, into_gap}
+use Rattle.bqn_parse.proofs.TreeItems.{GoodItems, ItemDepths}
+use Rattle.bqn_parse.proofs.SoundSigns.{items_signs, pattern_spelled, expr_spelled, stmt_spelled}
+use Rattle.bqn_parse.proofs.SoundLevels.{Pieces, Suffix, suffix_more, nexts, by_apart, by_nothing, by_semicolon, lead, stmts_next, header_next, next_signs, end_signs, gap_in, Separable, in_block, in_header, literals_in, Kept, Read, Piece, Begins, At, Ended, fits_eq, into_gap}
 use Rattle.bqn_parse.proofs.SoundMore.{well_exprs, well_patterns, well_stmts, well_anywhere, exprs_deep, patterns_deep, stmts_deep, nexts_more, exprs_last, listed_last, stmts_last, stmts_more}
 use Rattle.bqn_parse.proofs.SoundClean.{expression_clean, statement_clean, pattern_clean}
 

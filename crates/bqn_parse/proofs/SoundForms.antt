@@ -1,6 +1,6 @@
 -- The header that joined elements form: it is well, and spelled by them.
-use Rattle.std.proofs.Common.{◌≡◌, ◌≤◌, ℕ, max, Bool, true, false, List, [], ◌∷◌, ◌++◌, Option, Some, None, refl, sym, ap, ◌∙◌, subst, arith}
-use Rattle.std.specs.Option.{option_map, option_and_then}
+use Rattle.std.proofs.Common.{◌≡◌, ◌≤◌, ℕ, Bool, true, false, List, [], ◌∷◌, ◌++◌, Option, Some, None, refl, sym, ap, ◌∙◌, subst, arith}
+use Rattle.std.specs.Option.{option_and_then}
 use Rattle.bqn_base.specs.declared.role.Role.TheVariants as role
 use Rattle.bqn_syntax.specs.declared.token.Kind.{Kind}
 use Rattle.bqn_syntax.specs.declared.token.Kind.TheVariants as kind
@@ -8,16 +8,16 @@ use Rattle.bqn_syntax.specs.declared.token.Token.{Token}
 use Rattle.bqn_syntax.specs.declared.sort.Tag.{Tag}
 use Rattle.bqn_syntax.specs.declared.sort.Tag.TheVariants as tag
 use Rattle.bqn_syntax.specs.Sorts.{token_named, is_name}
-use Rattle.bqn_syntax.specs.Items.{Element, OfPart, OfList, Item, Standing, Joining, group_pattern, groups, onto_first, only_group, piece_pattern}
+use Rattle.bqn_syntax.specs.Items.{Element, OfPart, Item, Standing, Joining, group_pattern, groups, onto_first, only_group, piece_pattern}
 use Rattle.bqn_syntax.specs.Headers.{own_tag, lone_token, token_tag, group_tag, is_left_operand, is_right_operand, left_operand, right_operand, outermost_name, outermost_pattern, header_pattern, is_left, is_right, special_or, left_argument, right_argument, with_right, function_form, operand_form, without_left, left_of, with_left, or_left, header_form}
-use Rattle.bqn_syntax.specs.Spells.{Sign, Exact, Mark, pattern_signs, token_signs, argument_signs, header_signs}
-use Rattle.bqn_syntax.specs.Well.{WellPattern, IsOutermost, IsArgument, special, pattern, ArgumentFits, OperandFits, SelfFits, SidesFit, WellHeader, pattern_depth, argument_depth, header_depth}
+use Rattle.bqn_syntax.specs.Spells.{Sign, Exact, pattern_signs, token_signs, argument_signs, header_signs}
+use Rattle.bqn_syntax.specs.Well.{IsOutermost, IsArgument, special, pattern, ArgumentFits, SelfFits, WellHeader, pattern_depth, argument_depth, header_depth}
 use Rattle.bqn_syntax.specs.Plain.{Pattern, Name, Skip, Literal, ListPattern, StrandPattern, Header, Leaf}
-use Rattle.bqn_parse.proofs.TreeItems.{pattern_items, GoodItems, ItemDepths}
+use Rattle.bqn_parse.proofs.TreeItems.{GoodItems, ItemDepths}
 use Rattle.bqn_parse.proofs.SoundSigns.{items_signs, items_after, pattern_spelled}
 use Rattle.bqn_parse.proofs.SoundLevels.{Pieces}
 use Rattle.bqn_parse.proofs.SoundMore.{max_le, max_right}
-use Rattle.bqn_parse.proofs.SoundClean.{and_then_some, map_some, onto_first_some}
+use Rattle.bqn_parse.proofs.SoundClean.{and_then_some, map_some}
 
 -- The items of joined elements.
 

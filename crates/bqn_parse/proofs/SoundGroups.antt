@@ -1,5 +1,5 @@
 -- A level that closes is one element of the level around it.
-use Rattle.std.proofs.Common.{◌≡◌, ◌≤◌, ℕ, suc, ◌+◌, max, Bool, true, false, List, [], ◌∷◌, ◌++◌, Option, Some, None, Result, Ok, Err, refl, sym, ap, ◌∙◌, subst, arith}
+use Rattle.std.proofs.Common.{◌≡◌, ◌≤◌, ℕ, suc, ◌+◌, Bool, true, false, List, [], ◌∷◌, ◌++◌, Option, Some, None, Result, Ok, refl, sym, ap, ◌∙◌, subst, arith}
 use Rattle.bqn_base.specs.declared.place.Place.{Place}
 use Rattle.bqn_base.specs.declared.refusal.Refusal.{Refusal}
 use Rattle.bqn_syntax.specs.declared.token.Token.{Token}
@@ -10,16 +10,16 @@ use Rattle.bqn_syntax.specs.declared.sort.Bracket.TheVariants.{Round, Angle, Squ
 use Rattle.bqn_syntax.specs.declared.sort.Sort.TheVariants.{Closes}
 use Rattle.bqn_syntax.specs.declared.sort.Inside.{Inside}
 use Rattle.bqn_syntax.specs.declared.sort.Inside.TheVariants as inside
-use Rattle.bqn_syntax.specs.Items.{Element, OfPart, OfList, Standing}
-use Rattle.bqn_syntax.specs.Classes.{Marks, marks_in, class_of}
+use Rattle.bqn_syntax.specs.Items.{Element, OfPart, OfList}
+use Rattle.bqn_syntax.specs.Classes.{marks_in, class_of}
 use Rattle.bqn_syntax.specs.Parsing.{Level, and_body, closes, block_part, parens_part, merge_part, whole}
-use Rattle.bqn_syntax.specs.Spells.{Sign, Exact, Mark, Apart, Gap, Fits, exact, mark, no_more, mark_at, expr_signs, exprs_signs, stmts_signs, body_signs, bodies_signs}
-use Rattle.bqn_syntax.specs.Well.{WellPattern, WellPatterns, WellJoined, WellExpr, WellExprs, IsSomeBodies, WellBodies, expr_depth, exprs_depth, patterns_depth, bodies_depth, body_depth, header_depth, stmts_depth}
+use Rattle.bqn_syntax.specs.Spells.{Sign, Exact, Mark, Gap, Fits, exact, mark, no_more, mark_at, expr_signs, exprs_signs, body_signs, bodies_signs}
+use Rattle.bqn_syntax.specs.Well.{WellPattern, WellPatterns, WellJoined, WellExprs, IsSomeBodies, WellBodies, expr_depth, exprs_depth, patterns_depth, bodies_depth, header_depth, stmts_depth}
 use Rattle.bqn_syntax.specs.Plain.{Elements, Merge, Paren, Pattern, Name, Skip, Literal, ListPattern, StrandPattern, Patterns, no_patterns, and_patterns, patterns, Expr, exprs, stmts, Block, block, BodyTree, body, Bodies, bodies}
 use Rattle.bqn_parse.proofs.TreeItems.{GoodElement, ElementDepth}
 use Rattle.bqn_parse.proofs.SoundSigns.{element_signs}
 use Rattle.bqn_parse.proofs.SoundSorts.{sort_code}
-use Rattle.bqn_parse.proofs.SoundLevels.{Suffix, nexts, by_nothing, by_semicolon, header_next, end_signs, gap_in, literals_in, Kept, OpenedBy, ListMay, Ended, fits_eq}
+use Rattle.bqn_parse.proofs.SoundLevels.{nexts, by_nothing, by_semicolon, end_signs, Kept, OpenedBy, ListMay, Ended, fits_eq}
 use Rattle.bqn_parse.proofs.SoundMore.{max_le, max_left, well_bodies, bodies_deep, bodies_last, body_next}
 
 -- a pattern without literals is well where there may be some

@@ -1,16 +1,16 @@
 -- What is read as a header is well, and the tokens spell it.
-use Rattle.std.proofs.Common.{◌≡◌, ◌≤◌, ℕ, zero, suc, Bool, true, false, List, [], ◌∷◌, ◌++◌, Option, Some, None, refl, sym, ap, ◌∙◌, subst, arith}
-use Rattle.std.specs.Option.{option_map, option_and_then}
+use Rattle.std.proofs.Common.{◌≡◌, ◌≤◌, ℕ, zero, suc, true, List, [], ◌∷◌, ◌++◌, Option, Some, None, refl, sym, ap, ◌∙◌, subst, arith}
+use Rattle.std.specs.Option.{option_and_then}
 use Rattle.bqn_syntax.specs.declared.token.Token.{Token}
 use Rattle.bqn_syntax.specs.declared.token.Kind.TheVariants as kind
-use Rattle.bqn_syntax.specs.declared.sort.Bracket.TheVariants.{Round, Angle, Square, Curly}
+use Rattle.bqn_syntax.specs.declared.sort.Bracket.TheVariants.{Angle}
 use Rattle.bqn_syntax.specs.declared.sort.Sort.{Sort}
-use Rattle.bqn_syntax.specs.declared.sort.Sort.TheVariants.{Opens, Closes, Separates, Draws, Joins, Selects, Ends, Heads, Asks, Skips, Stands}
+use Rattle.bqn_syntax.specs.declared.sort.Sort.TheVariants.{Opens, Closes, Separates, Joins, Skips, Stands}
 use Rattle.bqn_syntax.specs.Sorts.{sort_of}
-use Rattle.bqn_syntax.specs.Items.{Element, OfPart, OfList, Item, Standing, Joining, groups, piece_pattern}
+use Rattle.bqn_syntax.specs.Items.{OfPart, OfList, Item, Standing, Joining, groups, piece_pattern}
 use Rattle.bqn_syntax.specs.Headers.{OpenList, open_list, and_item, end_of_piece, Lists, lists, list_closes, list_goes_on, header_step, outermost, header_items, header_form, header_in}
 use Rattle.bqn_syntax.specs.Spells.{Sign, Exact, Mark, Apart, Gap, Fits, exact, mark, apart, one_more, no_more, mark_at, pattern_signs, listed_signs}
-use Rattle.bqn_syntax.specs.Well.{WellPattern, WellPatterns, pattern_depth, patterns_depth}
+use Rattle.bqn_syntax.specs.Well.{WellPatterns, patterns_depth}
 use Rattle.bqn_syntax.specs.Plain.{Pattern, ListPattern, patterns, Header, Leaf, Nothing}
 use Rattle.bqn_parse.proofs.TreeItems.{GoodItem, GoodItems, ItemDepth, ItemDepths}
 use Rattle.bqn_parse.proofs.SoundSigns.{item_signs, items_signs, items_after, pattern_spelled}
@@ -21,7 +21,7 @@ use Rattle.bqn_parse.proofs.SoundClean.{and_then_some, map_some}
 use Rattle.bqn_parse.proofs.SoundItems.{good_more, deep_more}
 use Rattle.bqn_parse.proofs.SoundGroups.{suc_le}
 use Rattle.bqn_parse.proofs.SoundSteps.{zero_le}
-use Rattle.bqn_parse.proofs.SoundForms.{groups_items, Grouped, grouped, good_groups, header_form_only}
+use Rattle.bqn_parse.proofs.SoundForms.{grouped, good_groups, header_form_only}
 
 -- an open list: its pieces up to the first token of the one that is being read, and the items of that one up to the rest
 pub record Listed (n : ℕ) (l : OpenList) (start first rest : List Token) : Type 0 where

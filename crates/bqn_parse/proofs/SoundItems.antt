@@ -1,13 +1,13 @@
 -- One more item of a piece.
-use Rattle.std.proofs.Common.{◌≡◌, ◌≤◌, ℕ, suc, Bool, true, false, List, [], ◌∷◌, ◌++◌, Option, Some, None, refl, sym, ap, ◌∙◌, subst}
+use Rattle.std.proofs.Common.{◌≡◌, ℕ, Bool, List, [], ◌∷◌, ◌++◌, Option, Some, refl, sym, ap, ◌∙◌, subst}
 use Rattle.bqn_syntax.specs.declared.token.Token.{Token}
 use Rattle.bqn_syntax.specs.declared.sort.Inside.{Inside}
 use Rattle.bqn_syntax.specs.declared.sort.Inside.TheVariants as inside
-use Rattle.bqn_syntax.specs.Items.{Element, Item, Standing}
+use Rattle.bqn_syntax.specs.Items.{Item}
 use Rattle.bqn_syntax.specs.Parsing.{Level, or_first, begun, and_item}
 use Rattle.bqn_syntax.specs.Spells.{Sign, Fits}
-use Rattle.bqn_parse.proofs.TreeItems.{GoodElement, GoodItem, GoodItems, ElementDepth, ItemDepth, ItemDepths}
-use Rattle.bqn_parse.proofs.SoundSigns.{element_signs, item_signs, items_signs, items_after}
+use Rattle.bqn_parse.proofs.TreeItems.{GoodItem, GoodItems, ItemDepth, ItemDepths}
+use Rattle.bqn_parse.proofs.SoundSigns.{item_signs, items_after}
 use Rattle.bqn_parse.proofs.SoundLevels.{Suffix, suffix_more, CleanItem, Clean, literals_in, next_signs, end_signs, gap_in, Kept, Read, Piece, Begins, At, Outer, fits_eq}
 use Rattle.bqn_parse.proofs.SoundClean.{clean_front, clean_back}
 

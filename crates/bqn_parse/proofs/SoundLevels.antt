@@ -1,22 +1,21 @@
 -- What the walk keeps of the level that it reads and of those around it.
-use Rattle.std.proofs.Common.{◌≡◌, ◌≤◌, ℕ, zero, suc, Bool, true, false, List, [], ◌∷◌, ◌++◌, Option, Some, None, refl, sym, ap, ◌∙◌, subst, append_assoc, arith}
+use Rattle.std.proofs.Common.{◌≡◌, ◌≤◌, ℕ, zero, suc, Bool, true, false, List, [], ◌∷◌, ◌++◌, Option, Some, None, refl, sym, ap, ◌∙◌, subst, append_assoc}
 use Rattle.bqn_base.specs.declared.place.Place.{Place}
 use Rattle.bqn_syntax.specs.declared.token.Token.{Token}
 use Rattle.bqn_syntax.specs.declared.token.Kind.TheVariants as kind
 use Rattle.bqn_syntax.specs.declared.sort.Sort.{Sort}
-use Rattle.bqn_syntax.specs.declared.sort.Sort.TheVariants.{Opens, Closes, Separates, Draws, Joins, Selects, Ends, Heads, Asks, Skips, Stands}
+use Rattle.bqn_syntax.specs.declared.sort.Sort.TheVariants.{Opens, Closes, Separates}
 use Rattle.bqn_syntax.specs.declared.sort.Inside.{Inside}
 use Rattle.bqn_syntax.specs.declared.sort.Inside.TheVariants as inside
 use Rattle.bqn_syntax.specs.Sorts.{sort_of}
 use Rattle.bqn_syntax.specs.Looks.{Ahead, Looks, first_of, rest_of}
-use Rattle.bqn_syntax.specs.Items.{Element, OfPart, OfList, Item, Standing, Drawn, Joining, Selecting, Wrong, piece_pattern}
+use Rattle.bqn_syntax.specs.Items.{Item, Wrong, piece_pattern}
 use Rattle.bqn_syntax.specs.Expressions.{piece_expression, piece_statement, piece_predicate}
-use Rattle.bqn_syntax.specs.Headers.{header_in}
 use Rattle.bqn_syntax.specs.Classes.{is_predicate}
 use Rattle.bqn_syntax.specs.Parsing.{Level, Levels}
-use Rattle.bqn_syntax.specs.Spells.{Sign, Exact, Mark, Apart, Gap, Fits, exact, mark, apart, one_more, no_more, mark_at, pattern_signs, header_signs, expr_signs, stmt_signs, stmts_signs, body_signs, listed_signs, exprs_signs}
+use Rattle.bqn_syntax.specs.Spells.{Sign, Mark, Apart, Gap, Fits, no_more, mark_at, pattern_signs, header_signs, expr_signs, stmt_signs, stmts_signs, body_signs, listed_signs, exprs_signs}
 use Rattle.bqn_syntax.specs.Well.{WellExpr, WellExprs, WellPattern, WellPatterns, WellStmt, WellStmts, WellBodies, WellHeader, HeaderFits, expr_depth, exprs_depth, pattern_depth, patterns_depth, stmt_depth, stmts_depth, bodies_depth, header_depth}
-use Rattle.bqn_syntax.specs.Plain.{Pattern, patterns, Header, Expr, exprs, Stmt, stmts, BodyTree, bodies}
+use Rattle.bqn_syntax.specs.Plain.{Pattern, patterns, Header, Expr, exprs, Stmt, stmts, bodies}
 use Rattle.bqn_parse.proofs.TreeItems.{pattern_items, expr_items, GoodItems, ItemDepths}
 use Rattle.bqn_parse.proofs.SoundSigns.{items_signs, stmt_items}
 

@@ -1,5 +1,5 @@
 -- Where the walk comes to an end, no more brackets are open than may be.
-use Rattle.std.proofs.Common.{◌≡◌, ◌≤◌, ◌<◌, ◌+◌, ℕ, zero, suc, Bool, true, false, List, [], ◌∷◌, ◌++◌, length, Option, Some, None, Result, Ok, Err, nat_lt, if◌then◌else◌, refl, sym, ap, ◌∙◌, subst, arith}
+use Rattle.std.proofs.Common.{◌≡◌, ◌<◌, ◌+◌, ℕ, zero, suc, Bool, true, false, List, [], ◌∷◌, length, Result, Ok, Err, nat_lt, if◌then◌else◌, refl, sym, ap, ◌∙◌, subst, arith}
 use Rattle.bqn_base.specs.declared.place.Place.{Place}
 use Rattle.bqn_base.specs.declared.refusal.Refusal.{Refusal}
 use Rattle.bqn_base.specs.declared.refusal.Refusal.TheVariants as refusal
@@ -12,10 +12,10 @@ use Rattle.bqn_syntax.specs.declared.sort.Inside.TheVariants as inside
 use Rattle.bqn_syntax.specs.Sorts.{sort_of}
 use Rattle.bqn_syntax.specs.Looks.{Ahead, behind_group}
 use Rattle.bqn_syntax.specs.Items.{OfPart, Item, Standing, Drawn, Joining, Selecting, Wrong}
-use Rattle.bqn_syntax.specs.Parsing.{Level, Levels, levels, fresh, begun, and_item, inside_of, closes, go_on, taken, opened, closed, ended, whole_of, separated, body_ended, semicolon, asked, question, headed_by, colon, step, walk}
+use Rattle.bqn_syntax.specs.Parsing.{Level, Levels, levels, fresh, begun, and_item, inside_of, closes, go_on, taken, opened, closed, ended, separated, body_ended, semicolon, asked, question, headed_by, colon, step, walk}
 use Rattle.bqn_syntax.specs.Plain.{Leaf, Nothing, Stmts}
 use Rattle.bqn_parse.proofs.SoundLevels.{Within, WithinAt}
-use Rattle.bqn_parse.proofs.SoundBrackets.{opened_ok, Handed, closed_ok}
+use Rattle.bqn_parse.proofs.SoundBrackets.{opened_ok, closed_ok}
 use Rattle.bqn_parse.proofs.SoundSteps.{go_on_ok}
 
 -- a step that opens and closes nothing

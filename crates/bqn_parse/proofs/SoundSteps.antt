@@ -1,29 +1,24 @@
 -- One token on: an item, a bracket that opens or closes, a separator.
-use Rattle.std.proofs.Common.{◌≡◌, ◌≤◌, ℕ, zero, suc, Bool, true, false, List, [], ◌∷◌, ◌++◌, length, Option, Some, None, Result, Ok, Err, nat_lt, if◌then◌else◌, refl, sym, ap, ◌∙◌, subst, arith}
+use Rattle.std.proofs.Common.{◌≡◌, ◌≤◌, ℕ, Bool, false, List, [], ◌∷◌, None, Result, Ok, Err, refl, sym, ap, ◌∙◌, subst, arith}
 use Rattle.bqn_base.specs.declared.place.Place.{Place}
 use Rattle.bqn_base.specs.declared.refusal.Refusal.{Refusal}
 use Rattle.bqn_syntax.specs.declared.token.Token.{Token}
-use Rattle.bqn_syntax.specs.declared.token.Kind.TheVariants as kind
 use Rattle.bqn_syntax.specs.declared.tree.Arrow.{Arrow}
-use Rattle.bqn_syntax.specs.declared.sort.Bracket.{Bracket}
-use Rattle.bqn_syntax.specs.declared.sort.Bracket.TheVariants.{Round, Angle, Square, Curly}
-use Rattle.bqn_syntax.specs.declared.sort.Sort.{Sort}
-use Rattle.bqn_syntax.specs.declared.sort.Sort.TheVariants.{Opens, Closes, Separates, Draws, Joins, Selects, Ends, Heads, Asks, Skips, Stands}
+use Rattle.bqn_syntax.specs.declared.sort.Sort.TheVariants.{Separates, Draws, Joins, Selects, Skips, Stands}
 use Rattle.bqn_syntax.specs.declared.sort.Inside.{Inside}
 use Rattle.bqn_syntax.specs.declared.sort.Inside.TheVariants as inside
 use Rattle.bqn_syntax.specs.Sorts.{sort_of}
-use Rattle.bqn_syntax.specs.Looks.{Ahead, Looks, first_of, rest_of, look}
-use Rattle.bqn_syntax.specs.Items.{Element, OfPart, OfList, Item, Standing, Drawn, Joining, Selecting, Wrong}
-use Rattle.bqn_syntax.specs.Parsing.{Level, Levels, levels, fresh, begun, and_item, is_first_piece, list_inside, inside_of, closes, whole, whole_of, handed, go_on, taken, opened, closed, separated, ended}
-use Rattle.bqn_syntax.specs.Spells.{Sign, Exact, Mark, Fits, exact, mark, arrow_code, mark_at}
+use Rattle.bqn_syntax.specs.Looks.{Looks}
+use Rattle.bqn_syntax.specs.Items.{OfPart, Item, Standing, Drawn, Joining, Selecting, Wrong}
+use Rattle.bqn_syntax.specs.Parsing.{Level, Levels, levels, begun, and_item, go_on, taken, separated, ended}
+use Rattle.bqn_syntax.specs.Spells.{Sign, Exact, Fits, exact, mark, mark_at}
 use Rattle.bqn_syntax.specs.Plain.{Leaf, Nothing}
-use Rattle.bqn_parse.proofs.SoundSigns.{item_signs, items_signs}
+use Rattle.bqn_parse.proofs.SoundSigns.{items_signs}
 use Rattle.bqn_parse.proofs.TreeItems.{GoodItems, ItemDepths}
-use Rattle.bqn_parse.proofs.SoundSorts.{sort_code, IsMark, mark_of, token_at}
-use Rattle.bqn_parse.proofs.SoundLevels.{Pieces, Within, WithinAt, Suffix, suffix_all, suffix_one, suffix_more, CleanItem, Clean, literals_in, gap_in, next_signs, end_signs, Separable, Kept, Read, Piece, Begins, At, Outer, OpenedBy, ListMay, Opening, Around, State, Ended}
-use Rattle.bqn_parse.proofs.SoundEnds.{From, more_gap, ended_only}
-use Rattle.bqn_parse.proofs.SoundItems.{Spelling, taken_only, handed_only, outer_only}
-use Rattle.bqn_parse.proofs.SoundGroups.{Group, closing_code, whole_only}
+use Rattle.bqn_parse.proofs.SoundSorts.{mark_of, token_at}
+use Rattle.bqn_parse.proofs.SoundLevels.{Pieces, Within, suffix_all, suffix_one, suffix_more, CleanItem, Clean, literals_in, gap_in, Separable, Read, Begins, At, Around, State}
+use Rattle.bqn_parse.proofs.SoundEnds.{more_gap, ended_only}
+use Rattle.bqn_parse.proofs.SoundItems.{Spelling, taken_only}
 
 -- what is known behind one more token
 pub record Stepped (all : List Token) (l : Looks) (so : Levels) (rest : List Token) : Type 0 where

@@ -1,5 +1,5 @@
 -- What is walked to statements is spelled by them, and they are well.
-use Rattle.std.proofs.Common.{◌≡◌, ◌≤◌, ◌+◌, ℕ, zero, suc, Bool, true, false, List, [], ◌∷◌, ◌++◌, length, Option, Some, None, Result, Ok, Err, refl, sym, ap, ◌∙◌, subst, arith}
+use Rattle.std.proofs.Common.{◌≡◌, ◌≤◌, ◌+◌, ℕ, suc, List, [], ◌∷◌, length, Result, Ok, Err, refl, subst, arith}
 use Rattle.bqn_base.specs.declared.place.Place.{Place}
 use Rattle.bqn_base.specs.declared.refusal.Refusal.{Refusal}
 use Rattle.bqn_syntax.specs.declared.token.Token.{Token}
@@ -10,14 +10,14 @@ use Rattle.bqn_syntax.specs.declared.sort.Inside.TheVariants as inside
 use Rattle.bqn_syntax.specs.Sorts.{sort_of}
 use Rattle.bqn_syntax.specs.Brackets.{partners_of}
 use Rattle.bqn_syntax.specs.Looks.{Ahead, Looks, first_of, rest_of, look, looks_of, behind_group}
-use Rattle.bqn_syntax.specs.Items.{OfPart, Item, Standing, Drawn, Joining, Selecting}
-use Rattle.bqn_syntax.specs.Parsing.{Level, Levels, levels, fresh, ended, step, nowhere, program_of, walk, parsed}
-use Rattle.bqn_syntax.specs.Spells.{Sign, Gap, Fits, done, no_more, Spells}
-use Rattle.bqn_syntax.specs.Well.{Well, stmts_depth}
+use Rattle.bqn_syntax.specs.Items.{OfPart, Standing, Drawn, Joining, Selecting}
+use Rattle.bqn_syntax.specs.Parsing.{Level, Levels, levels, fresh, ended, step, nowhere, program_of, walk}
+use Rattle.bqn_syntax.specs.Spells.{done, no_more, Spells}
+use Rattle.bqn_syntax.specs.Well.{stmts_depth}
 use Rattle.bqn_syntax.specs.Grammar.{WellSpelled, OnlyWellTreesAreFound}
 use Rattle.bqn_syntax.specs.Plain.{Leaf, Nothing, Stmts, stmts}
-use Rattle.bqn_parse.proofs.SoundLevels.{Pieces, Within, WithinAt, literals_in, At, Around, State, Ended}
-use Rattle.bqn_parse.proofs.SoundEnds.{From, ended_only}
+use Rattle.bqn_parse.proofs.SoundLevels.{Pieces, Within, WithinAt, literals_in, Around, State, Ended}
+use Rattle.bqn_parse.proofs.SoundEnds.{ended_only}
 use Rattle.bqn_parse.proofs.SoundSteps.{Stepped, taken_step, leaf_spelling, skip_spelling, drawn_spelling, joins_spelling, selects_spelling, separated_step}
 use Rattle.bqn_parse.proofs.SoundBrackets.{fresh_at, opened_step, closed_step}
 use Rattle.bqn_parse.proofs.SoundBodies.{semicolon_step, question_step, colon_step}
