@@ -10,7 +10,11 @@ use bqn_syntax::Pattern;
 use std::alloc::Global;
 
 /// The pattern that a piece is, whose leaves may be literals where they are allowed, or none.
-pub fn pattern(alloc: Global, literals: bool, items: Row<Item>) -> Result<Option<Pattern>, Memory>
+pub fn pattern(
+    alloc: Global,
+    literals: bool,
+    items: Row<Item>,
+) -> Result<Option<Pattern>, Memory>
     ensures { IfOk result (λ q. option_map pattern_of q ≡ piece_pattern literals (items_of items)) }
 {
     let _ = alloc;
