@@ -6,6 +6,11 @@ use Rattle.bqn_syntax.specs.declared.token.Token.{Token}
 use Rattle.bqn_syntax.specs.declared.tree.Arrow.{Arrow}
 use Rattle.bqn_syntax.specs.declared.tree.Arrow.TheVariants.{Define, Export, Change}
 use Rattle.bqn_syntax.specs.declared.sort.Bracket.{Bracket}
+use Rattle.std.proofs.Common.{◌≡◌, ℕ, ◌==◌, Bool, true, false, refl, sym, ap, ◌∙◌, arith, subst, if◌then◌else◌}
+use Rattle.bqn_syntax.specs.declared.token.Kind.{Kind}
+use Rattle.bqn_syntax.specs.declared.token.Kind.TheVariants as kind
+use Rattle.bqn_syntax.specs.declared.token.Token.{Token}
+use Rattle.bqn_syntax.specs.declared.tree.Arrow.TheVariants.{Define, Export, Change}
 use Rattle.bqn_syntax.specs.declared.sort.Bracket.TheVariants.{Round, Angle, Square, Curly}
 use Rattle.bqn_syntax.specs.declared.sort.Sort.{Sort}
 use Rattle.bqn_syntax.specs.declared.sort.Sort.TheVariants.{Opens, Closes, Separates, Draws, Joins, Selects, Ends, Heads, Asks, Skips, Stands}
