@@ -42,3 +42,4 @@ mod LastName
 mod Strands
 mod Readers
 mod Groups
+pub mod Only

@@ -1,11 +1,17 @@
 //! What holds of the grammar itself: nothing runs here.
 
-ghost use Rattle.bqn_syntax.specs.Grammar.{TreesAreUnique, WellTreesAreFound};
+ghost use Rattle.bqn_syntax.specs.Grammar.{OnlyWellTreesAreFound, TreesAreUnique, WellTreesAreFound};
 
 /// Each well tree is found from every token list that spells it.
 #[tactic(auto, using(crate::proofs::Found::found_laws))]
 pub fn well_trees_are_found()
     ensures { WellTreesAreFound }
+{}
+
+/// A tree that is found is well, and the tokens spell it.
+#[tactic(auto, using(crate::proofs::Only::only_laws))]
+pub fn only_well_trees_are_found()
+    ensures { OnlyWellTreesAreFound }
 {}
 
 /// A token list is spelled by at most one well tree.

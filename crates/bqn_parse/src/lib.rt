@@ -16,5 +16,5 @@ mod unit;
 mod units;
 
 pub use error::ParseError;
-pub use laws::{trees_are_unique, well_trees_are_found};
+pub use laws::{only_well_trees_are_found, trees_are_unique, well_trees_are_found};
 pub use parsing::parse;
