@@ -20,13 +20,15 @@ use Rattle.bqn_syntax.specs.declared.function.Function.{Function}
 use Rattle.bqn_syntax.specs.Tree.{Part, Number, Name, Paren, Expr, Value as Alone, Apply1, Apply2, Stmt}
 use Rattle.bqn_syntax.specs.Text.{text_of, without_returns}
 use Rattle.bqn_syntax.specs.Tokens.{tokens_of_text, tokens_of_source}
-use Rattle.bqn_syntax.specs.Form.{tree_of}
+use Rattle.bqn_syntax.specs.Plain.{Stmts}
+use Rattle.bqn_syntax.specs.Parsing.{parsed}
+use Rattle.bqn_syntax.specs.Form.{form_of}
 use Rattle.bqn_syntax.specs.Evaluation.{State, Res, Gives as Value, Faults, Spends, M, then_do, answered, answer_of, output_of, wrote, call, known_value, stored, eval_part, eval_expr, eval_statements, evaluated}
 use Rattle.std.specs.Prelude.{ℤ}
 use Rattle.bqn_cli.specs.declared.halted.Halted.{Halted}
 use Rattle.bqn_cli.specs.declared.halted.Halted.TheVariants as halted
 use Rattle.bqn_cli.specs.Command.{Run}
-use Rattle.bqn_cli.specs.Answer.{Answer, FileAnswers, source_answer, tokens_answer, tree_answer, ended, refused, default_steps}
+use Rattle.bqn_cli.specs.Answer.{Answer, FileAnswers, source_answer, tokens_answer, parsed_answer, form_answer, ended, refused, default_steps}
 use Rattle.bqn_cli.specs.Headline.{Whole, Prefix, FileFits, Meets}
 use Rattle.bqn_cli.specs.Writing.{Gives, fetched_answer, status_of}
 
@@ -133,12 +135,16 @@ ended-status (Value u s) h = tt
 ended-status (Faults f s) h = tt
 ended-status (Spends s) h = absurd h
 
-tree_answer-status : (tree : Option (List Stmt)) → IsRunStatus (tree_answer tree).status
-tree_answer-status None = tt
-tree_answer-status (Some tree) = ended-status (evaluated tree default_steps) (has_steps-statements tree (record { written = []; left = 999999; vars = [] }))
+form_answer-status : (form : Option (List Stmt)) → IsRunStatus (form_answer form).status
+form_answer-status None = tt
+form_answer-status (Some form) = ended-status (evaluated form default_steps) (has_steps-statements form (record { written = []; left = 999999; vars = [] }))
+
+parsed_answer-status : (tokens : List Token) (answer : Result Stmts Refusal) → IsRunStatus (parsed_answer tokens answer).status
+parsed_answer-status tokens (Ok stmts) = form_answer-status (form_of tokens stmts)
+parsed_answer-status tokens (Err r) = tt
 
 tokens_answer-status : (answer : Result (List Token) Refusal) → IsRunStatus (tokens_answer answer).status
-tokens_answer-status (Ok tokens) = tree_answer-status (tree_of tokens)
+tokens_answer-status (Ok tokens) = parsed_answer-status tokens (parsed tokens)
 tokens_answer-status (Err r) = tt
 
 fetched_answer-status : (given : Fetched) → IsRunStatus (fetched_answer given).status

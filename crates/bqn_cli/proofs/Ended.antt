@@ -12,7 +12,10 @@ use Rattle.bqn_io.specs.Writing.{Adds, AddsPart, Breaks}
 use Rattle.bqn_io.proofs.Writing.{adds-nothing, adds-then, adds-then-part, adds-then-breaks}
 use Rattle.bqn_syntax.specs.declared.token.Token.{Token}
 use Rattle.bqn_syntax.specs.Tree.{Stmt}
-use Rattle.bqn_syntax.specs.Form.{tree_of}
+use Rattle.bqn_syntax.specs.declared.tree.Tree.{Tree}
+use Rattle.bqn_syntax.specs.Plain.{Stmts, tree_of}
+use Rattle.bqn_syntax.specs.Parsing.{parsed}
+use Rattle.bqn_syntax.specs.Form.{form_of}
 use Rattle.bqn_syntax.specs.Evaluation.{State, Gives as Value, Faults, Spends}
 use Rattle.bqn_machine.specs.declared.code.Instr.{Instr}
 use Rattle.bqn_machine.specs.declared.end.End.TheVariants as end
@@ -24,13 +27,13 @@ use Rattle.std.specs.declared.vec.Vec.{Vec}
 use Rattle.std.specs.declared.alloc.Global.{Global}
 use Rattle.bqn_cli.specs.declared.halted.Halted.{Halted}
 use Rattle.bqn_cli.specs.declared.halted.Halted.TheVariants as halted
-use Rattle.bqn_cli.specs.Answer.{Answer, ended, faulted, refused, tokens_answer, tree_answer, default_steps}
+use Rattle.bqn_cli.specs.Answer.{Answer, ended, faulted, refused, tokens_answer, parsed_answer, form_answer, default_steps}
 use Rattle.bqn_cli.specs.Writing.{Gives, GivesRun}
 
 -- code of a source misses no operand
-pub compiles-some : (tree : Option (List Stmt)) (code : Vec Instr Global) (steps : ℕ) → Compiles tree (Ok code) → IsSome (executed code.items steps)
+pub compiles-some : (form : Option (List Stmt)) (code : Vec Instr Global) (steps : ℕ) → Compiles form (Ok code) → IsSome (executed code.items steps)
 compiles-some None code steps h = absurd h
-compiles-some (Some tree) code steps h = subst (λ (run : Run). IsSome run) (sym (h steps)) refl
+compiles-some (Some form) code steps h = subst (λ (run : Run). IsSome run) (sym (h steps)) refl
 
 module _ {K : Type 0} (written : K → Option (List ℕ)) (room faults : K → ℕ) where
   pub run-done : (run : Run) (old new : K) → EndsAs written room faults run old new end.Done → GivesRun written room faults run old new (Ok status.Done)
@@ -77,18 +80,24 @@ module _ {K : Type 0} (written : K → Option (List ℕ)) (room faults : K → �
   run-faulted (Some (Faults g s)) f old mid new result e h = behind g s old mid new result e.1 (subst (λ (x : Fault). Gives written room faults (faulted x) mid new result) e.0 h)
   run-faulted (Some (Spends s)) f old mid new result e h = absurd e
 
-  pub source-run : (tree : Option (List Stmt)) (code : Vec Instr Global) (old new : K) (result : Result Status Halted) → Compiles tree (Ok code) → GivesRun written room faults (executed code.items default_steps) old new result → Gives written room faults (tree_answer tree) old new result
+  pub source-run : (form : Option (List Stmt)) (code : Vec Instr Global) (old new : K) (result : Result Status Halted) → Compiles form (Ok code) → GivesRun written room faults (executed code.items default_steps) old new result → Gives written room faults (form_answer form) old new result
   source-run None code old new result c h = absurd c
-  source-run (Some tree) code old new result c h = subst (λ (run : Run). GivesRun written room faults run old new result) (c default_steps) h
+  source-run (Some form) code old new result c h = subst (λ (run : Run). GivesRun written room faults run old new result) (c default_steps) h
 
-  pub source-refused : (tree : Option (List Stmt)) (old new : K) (result : Result Status Halted) → Compiles tree (Err compile.NotYet) → Gives written room faults (refused NotYet) old new result → Gives written room faults (tree_answer tree) old new result
+  pub source-refused : (form : Option (List Stmt)) (old new : K) (result : Result Status Halted) → Compiles form (Err compile.NotYet) → Gives written room faults (refused NotYet) old new result → Gives written room faults (form_answer form) old new result
   source-refused None old new result c h = h
-  source-refused (Some tree) old new result c h = absurd c
+  source-refused (Some form) old new result c h = absurd c
 
-  pub source-memory : (tree : Option (List Stmt)) (old : K) → Gives written room faults (tree_answer tree) old old (Err halted.Memory)
-  source-memory tree old = record { front = []; rest = (tree_answer tree).out; whole = refl; adds = adds-nothing written room faults old }
+  pub source-memory : (form : Option (List Stmt)) (old : K) → Gives written room faults (form_answer form) old old (Err halted.Memory)
+  source-memory form old = record { front = []; rest = (form_answer form).out; whole = refl; adds = adds-nothing written room faults old }
 
-  pub source-tokens : (answer : Result (List Token) Refusal) (given : Vec Token Global) (old new : K) (result : Result Status Halted) → answer ≡ Ok given.items → Gives written room faults (tree_answer (tree_of given.items)) old new result → Gives written room faults (tokens_answer answer) old new result
+  pub parsed-tree : (tokens : List Token) (answer : Result Stmts Refusal) (given : Tree) (old new : K) (result : Result Status Halted) → answer ≡ Ok (tree_of given) → Gives written room faults (form_answer (form_of tokens (tree_of given))) old new result → Gives written room faults (parsed_answer tokens answer) old new result
+  parsed-tree tokens answer given old new result e h = subst (λ (a : Result Stmts Refusal). Gives written room faults (parsed_answer tokens a) old new result) (sym e) h
+
+  pub parsed-refusal : (tokens : List Token) (answer : Result Stmts Refusal) (r : Refusal) (old new : K) (result : Result Status Halted) → answer ≡ Err r → Gives written room faults (refused r) old new result → Gives written room faults (parsed_answer tokens answer) old new result
+  parsed-refusal tokens answer r old new result e h = subst (λ (a : Result Stmts Refusal). Gives written room faults (parsed_answer tokens a) old new result) (sym e) h
+
+  pub source-tokens : (answer : Result (List Token) Refusal) (given : Vec Token Global) (old new : K) (result : Result Status Halted) → answer ≡ Ok given.items → Gives written room faults (parsed_answer given.items (parsed given.items)) old new result → Gives written room faults (tokens_answer answer) old new result
   source-tokens answer given old new result e h = subst (λ (a : Result (List Token) Refusal). Gives written room faults (tokens_answer a) old new result) (sym e) h
 
   pub source-refusal : (answer : Result (List Token) Refusal) (r : Refusal) (old new : K) (result : Result Status Halted) → answer ≡ Err r → Gives written room faults (refused r) old new result → Gives written room faults (tokens_answer answer) old new result
@@ -98,6 +107,8 @@ module _ {K : Type 0} (written : K → Option (List ℕ)) (room faults : K → �
   gives-nothing answer old = record { front = []; rest = answer.out; whole = refl; adds = adds-nothing written room faults old }
 
 pub ruleset token_laws = (source-tokens, source-refusal, gives-nothing)
+
+pub ruleset parsed_laws = (parsed-tree, parsed-refusal, gives-nothing)
 
 pub ruleset run_laws = (run-done, run-spent, run-memory, run-write_fault, run-faulted)
 

@@ -10,7 +10,9 @@ use Rattle.bqn_io.specs.Devices.{Told, Untold, Missing, Kept}
 use Rattle.bqn_syntax.specs.declared.token.Token.{Token}
 use Rattle.bqn_syntax.specs.Tree.{Stmt}
 use Rattle.bqn_syntax.specs.Tokens.{tokens_of_source}
-use Rattle.bqn_syntax.specs.Form.{tree_of}
+use Rattle.bqn_syntax.specs.Plain.{Stmts}
+use Rattle.bqn_syntax.specs.Parsing.{parsed}
+use Rattle.bqn_syntax.specs.Form.{form_of}
 use Rattle.bqn_syntax.specs.Evaluation.{Res, Gives, Faults, Spends, evaluated}
 use Rattle.bqn_cli.specs.Command.{Command, Run, NoCommand}
 
@@ -36,14 +38,19 @@ ended (Gives u s) = record { out = s.written; status = status.Done }
 ended (Faults fault s) = record { out = s.written ++ encode_utf8_all (error_line fault); status = status.Fault }
 ended (Spends s) = record { out = s.written; status = status.Spent }
 
-abbrev pub tree_answer : Option (List Stmt) → Answer
-tree_answer None = refused NotYet
-tree_answer (Some tree) = ended (evaluated tree default_steps)
+abbrev pub form_answer : Option (List Stmt) → Answer
+form_answer None = refused NotYet
+form_answer (Some form) = ended (evaluated form default_steps)
+
+-- the refusal of a token list, or what the form of its tree gives
+abbrev pub parsed_answer : List Token → Result Stmts Refusal → Answer
+parsed_answer tokens (Err refusal) = refused refusal
+parsed_answer tokens (Ok stmts) = form_answer (form_of tokens stmts)
 
 -- the refusal of a source, or what its tokens give
 abbrev pub tokens_answer : Result (List Token) Refusal → Answer
 tokens_answer (Err refusal) = refused refusal
-tokens_answer (Ok tokens) = tree_answer (tree_of tokens)
+tokens_answer (Ok tokens) = parsed_answer tokens (parsed tokens)
 
 -- the answer to a source
 abbrev pub source_answer : List ℕ → Answer

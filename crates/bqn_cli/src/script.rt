@@ -1,10 +1,12 @@
 //! A source as it is run: the bytes that are written, and the status.
 
-ghost use Rattle.std.specs.Prelude.{◌≡◌, IsSome, MatchResult, encode_utf8_all};
+ghost use Rattle.std.specs.Prelude.{◌≡◌, ◌≤◌, ◌^◌, IsSome, MatchResult, encode_utf8_all, length};
 ghost use Rattle.bqn_io.specs.Writing.{Adds, Breaks};
-ghost use Rattle.bqn_syntax.specs.Form.{tree_of};
+ghost use Rattle.bqn_syntax.specs.Form.{form_of};
+ghost use Rattle.bqn_syntax.specs.Parsing.{parsed};
+ghost use Rattle.bqn_syntax.specs.Plain.{tree_of};
 ghost use Rattle.bqn_machine.specs.Execution.{executed};
-ghost use Rattle.bqn_cli.specs.Answer.{default_steps, faulted, refused, source_answer, tree_answer};
+ghost use Rattle.bqn_cli.specs.Answer.{default_steps, faulted, form_answer, parsed_answer, refused, source_answer};
 ghost use Rattle.bqn_cli.specs.Writing.{Gives, GivesRun};
 
 use crate::halted::Halted;
@@ -12,7 +14,8 @@ use crate::lines::{error_line, refusal_line};
 use bqn_base::{Fault, Refusal, Status};
 use bqn_io::{Failed, Sink};
 use bqn_machine::{CompileError, End, Instr, compile, run_code};
-use bqn_syntax::Token;
+use bqn_parse::{ParseError, parse};
+use bqn_syntax::{Token, Tree};
 use bqn_token::{TokenError, tokens};
 use std::alloc::Global;
 
@@ -71,15 +74,33 @@ fn run<K: Sink>(alloc: Global, code: &[Instr], out: &mut K) -> Result<Status, Ha
     }
 }
 
-/// Compiles and runs the tokens of a source.
+/// Compiles and runs the tree of a token list.
 #[tactic(auto, using(crate::proofs::Ended::source_laws))]
-fn run_tokens<K: Sink>(alloc: Global, tokens: &[Token], out: &mut K) -> Result<Status, Halted>
-    ensures { Gives K.written K.room K.faults (tree_answer (tree_of tokens.now)) out.old out.new result }
+fn run_tree<K: Sink>(
+    alloc: Global,
+    tokens: &[Token],
+    tree: &Tree,
+    out: &mut K,
+) -> Result<Status, Halted>
+    ensures { Gives K.written K.room K.faults (form_answer (form_of tokens.now (tree_of tree.now))) out.old out.new result }
 {
-    match compile(alloc, tokens) {
+    match compile(alloc, tokens, tree) {
         Ok(code) => run(alloc, &code, out),
         Err(CompileError::NotYet) => refuse(alloc, Refusal::NotYet, out),
         Err(CompileError::Memory) => Err(Halted::Memory),
+    }
+}
+
+/// Refuses the tokens of a source, or runs them.
+#[tactic(auto, using(crate::proofs::Ended::parsed_laws))]
+fn run_tokens<K: Sink>(alloc: Global, tokens: &[Token], out: &mut K) -> Result<Status, Halted>
+    requires { length tokens.now ≤ 2 ^ 28 }
+    ensures { Gives K.written K.room K.faults (parsed_answer tokens.now (parsed tokens.now)) out.old out.new result }
+{
+    match parse(alloc, tokens) {
+        Ok(tree) => run_tree(alloc, tokens, &tree, out),
+        Err(ParseError::Refused(refusal)) => refuse(alloc, refusal, out),
+        Err(ParseError::Memory) => Err(Halted::Memory),
     }
 }
 

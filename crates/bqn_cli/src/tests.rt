@@ -67,15 +67,23 @@ fn scripts(rt: HostRuntime) -> Result<(), Fail> {
         ("•Show a⋄a←1", not_yet, Status::Refused),
         ("a←1⋄a←2", not_yet, Status::Refused),
         ("a←a", not_yet, Status::Refused),
-        ("A←1", not_yet, Status::Refused),
+        ("F←+", not_yet, Status::Refused),
+        ("a←b←1", not_yet, Status::Refused),
         ("1+(a←2)", not_yet, Status::Refused),
-        ("(1⋄2)", not_yet, Status::Refused),
-        ("1)", not_yet, Status::Refused),
-        ("()", not_yet, Status::Refused),
-        ("•Show (", not_yet, Status::Refused),
         ("•Show 7÷2", not_yet, Status::Refused),
-        ("1 2", not_yet, Status::Refused),
-        ("•show 1", not_yet, Status::Refused),
+        ("•Show {𝕩}1", not_yet, Status::Refused),
+        ("A←1", "Refused: Grammar 1:1\n", Status::Refused),
+        ("1 2", "Refused: Grammar 1:1\n", Status::Refused),
+        ("•show 1", "Refused: Grammar 1:1\n", Status::Refused),
+        ("f ← {𝕩+1}", "Refused: Grammar 1:1\n", Status::Refused),
+        ("1;2", "Refused: Grammar 1:1\n", Status::Refused),
+        ("(1⋄2)", "Refused: Grammar 1:2\n", Status::Refused),
+        ("()", "Refused: Grammar 1:2\n", Status::Refused),
+        ("1)", "Refused: Bracket 1:2\n", Status::Refused),
+        ("(1", "Refused: Bracket 1:1\n", Status::Refused),
+        ("•Show (", "Refused: Bracket 1:7\n", Status::Refused),
+        ("{}", "Refused: BadBlock 1:1\n", Status::Refused),
+        ("{𝕊 1 2: 3}", "Refused: BadBlock 1:2\n", Status::Refused),
         ("$", "Refused: BadChar 1:1\n", Status::Refused),
         ("'ab'", "Refused: OpenQuote 1:1\n", Status::Refused),
         ("3i4", "Refused: BadNumber 1:1\n", Status::Refused),
@@ -128,7 +136,7 @@ fn sources_of_many_bytes(rt: HostRuntime) -> Result<(), Fail> {
 #[test]
 fn parentheses(rt: HostRuntime) -> Result<(), Fail> {
     let alloc = rt.alloc();
-    for (depth, written) in [(128, "1\n"), (129, "Refused: NotYet\n")] {
+    for (depth, written) in [(128, "1\n"), (129, "Refused: TooNested 1:135\n")] {
         let mut source = String::from_str(alloc, "•Show ")?;
         for _ in 0..depth {
             source.push('(')?;
@@ -140,6 +148,8 @@ fn parentheses(rt: HostRuntime) -> Result<(), Fail> {
         let (_, bytes) = ran(&rt, "run f", source.as_bytes(), &[])?;
         assert_eq!(rt; bytes.as_slice(), written.as_bytes(), "at {depth}");
     }
+    let (_, bytes) = ran(&rt, "run f", &repeated(alloc, b'(', 129)?, &[])?;
+    assert_eq!(rt; bytes.as_slice(), b"Refused: TooNested 1:129\n".as_slice());
     Ok(())
 }
 
@@ -172,7 +182,7 @@ fn every_symbol(rt: HostRuntime) -> Result<(), Fail> {
     let source =
         "+-×÷⋆√⌊⌈|¬∧∨<>≠=≤≥≡≢⊣⊢⥊∾≍⋈↑↓↕«»⌽⍉/⍋⍒⊏⊑⊐⊒∊⍷⊔!˙˜˘¨⌜⁼´˝`∘○⊸⟜⌾⊘◶⎉⚇⍟⎊←⇐↩(){}⟨⟩[]‿·⋄,.;:?\n𝕨𝕩𝕤𝕗𝕘𝕎𝕏𝕊𝔽𝔾𝕣 _𝕣 _𝕣_ @ '@' \"\" •x F _m _d_";
     let (status, bytes) = ran(&rt, "run f", source.as_bytes(), &[])?;
-    assert_eq!(rt; bytes.as_slice(), b"Refused: NotYet\n".as_slice());
+    assert_eq!(rt; bytes.as_slice(), b"Refused: Grammar 1:69\n".as_slice());
     assert_eq!(rt; status, Status::Refused);
     Ok(())
 }

@@ -1,9 +1,6 @@
-pub mod Behind
 pub mod Spelling
-pub mod TokenSigns
-pub mod Rows
+pub mod Called
 pub mod Emitting
-pub mod Statements
 pub mod Simulation
 pub mod Compiled
 pub mod NumberLine

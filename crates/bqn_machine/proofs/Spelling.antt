@@ -4,15 +4,11 @@ use Rattle.std.specs.Prelude.{nat_eq, nat_lt}
 use Rattle.std.specs.List.{position_or_len, list_any}
 use Rattle.std.specs.Cmp.Lexicographic.{pointwise, nat_list_eq_equiv}
 use Rattle.std.proofs.lemmas.List.{length-map}
-use Rattle.bqn_syntax.specs.declared.sign.Sign.TheVariants as sign
-use Rattle.bqn_syntax.specs.Form.{Numbered, name_sign}
+use Rattle.bqn_syntax.specs.Form.{number_of}
+use Rattle.bqn_machine.specs.declared.code.Instr.{Instr}
+use Rattle.bqn_machine.specs.declared.code.Instr.TheVariants.{Define}
 use Rattle.bqn_machine.specs.Reading.{spelled}
-
-abbrev numbered : List (List ℕ) → List ℕ → Option ℕ → Numbered
-numbered names name place = elim place [
-  | Some number ↦ record { sign = sign.Name number; names = names }
-  | None ↦ record { sign = sign.Name (length names); names = names ++ name ∷ [] }
-]
+use Rattle.bqn_machine.specs.Emission.{progress, fresh_emitted, name_emitted}
 
 module _ {A : Type 0} where
   abbrev pub same : List ℕ → Vec ℕ A → Bool
@@ -25,11 +21,11 @@ module _ {A : Type 0} where
   length-spelled : (keys : List (Vec ℕ A)) → length (spelled keys) ≡ length keys
   length-spelled keys = length-map keys (λ (key : Vec ℕ A). key.items)
 
-  position-spelled : (name : List ℕ) (keys : List (Vec ℕ A)) → position (λ other. pointwise nat_eq other name) (spelled keys) ≡ position (same name) keys
+  pub position-spelled : (name : List ℕ) (keys : List (Vec ℕ A)) → number_of (spelled keys) name ≡ position (same name) keys
   position-spelled name keys = λ i. cond (nat_lt (first-spelled name keys i) (length-spelled keys i)) (Some (first-spelled name keys i)) None
 
-  pub name_sign-known : (name : List ℕ) (keys : List (Vec ℕ A)) (number : ℕ) → position (same name) keys ≡ Some number → name_sign (spelled keys) name ≡ record { sign = sign.Name number; names = spelled keys }
-  name_sign-known name keys number e = ap (λ (place : Option ℕ). numbered (spelled keys) name place) (position-spelled name keys ∙ e)
+  pub name-known : (name : List ℕ) (keys : List (Vec ℕ A)) (code : List Instr) (number : ℕ) → position (same name) keys ≡ Some number → name_emitted (spelled keys) code name ≡ None
+  name-known name keys code number e = ap (λ (place : Option ℕ). fresh_emitted (spelled keys) code name place) (position-spelled name keys ∙ e)
 
   spelled-pushed : (keys : List (Vec ℕ A)) (key : Vec ℕ A) → spelled (keys ++ key ∷ []) ≡ spelled keys ++ key.items ∷ []
   spelled-pushed [] key = refl
@@ -45,7 +41,9 @@ module _ {A : Type 0} where
       ∙ spelled-pushed keys key
       ∙ ap (λ (spelling : List ℕ). spelled keys ++ spelling ∷ []) e
 
-  pub name_sign-new : (name : List ℕ) (keys after : List (Vec ℕ A)) (key : Vec ℕ A) (number : ℕ) → position (same name) keys ≡ None → list_any (same name) keys ≡ false → key.items ≡ name → after ≡ inserted keys key (list_any (same key.items) keys) → number ≡ length keys → name_sign (spelled keys) name ≡ record { sign = sign.Name number; names = spelled after }
-  name_sign-new name keys after key number place none e a n =
-      ap (λ (p : Option ℕ). numbered (spelled keys) name p) (position-spelled name keys ∙ place)
-      ∙ (λ i. record { sign = sign.Name ((length-spelled keys ∙ sym n) i); names = (sym (ap (λ (ks : List (Vec ℕ A)). spelled ks) a ∙ spelled-inserted name keys key e none)) i })
+  pub name-new : (name : List ℕ) (keys after : List (Vec ℕ A)) (code : List Instr) (key : Vec ℕ A) → position (same name) keys ≡ None → list_any (same name) keys ≡ false → key.items ≡ name → after ≡ inserted keys key (list_any (same key.items) keys) → name_emitted (spelled keys) code name ≡ Some (progress (spelled after) (code ++ Define ∷ []))
+  name-new name keys after code key place none e a =
+      ap (λ (p : Option ℕ). fresh_emitted (spelled keys) code name p) (position-spelled name keys ∙ place)
+      ∙ ap (λ (names : List (List ℕ)). Some (progress names (code ++ Define ∷ []))) (sym (ap (λ (ks : List (Vec ℕ A)). spelled ks) a ∙ spelled-inserted name keys key e none))
+
+pub ruleset name_laws = (position-spelled)

@@ -1,105 +1,90 @@
--- The code of a row, emitted while the row is read leftward: no tree is kept.
-use Rattle.std.specs.Prelude.{ℕ, ◌+◌, nat_eq, nat_lt, if◌then◌else◌, List, [], ◌∷◌, ◌++◌, length, reverse, Option, Some, None}
+-- The code that is emitted while a tree is walked, behind the code so far and the names that are defined: none where the tree
+-- is not of the form that is built so far.
+use Rattle.std.specs.Prelude.{ℕ, List, [], ◌∷◌, ◌++◌, Option, Some, None}
 use Rattle.std.specs.Option.{option_map, option_and_then}
+use Rattle.bqn_base.specs.declared.role.Role.TheVariants as role
 use Rattle.bqn_syntax.specs.declared.function.Function.{Function}
-use Rattle.bqn_syntax.specs.declared.sign.Sign.{Sign}
-use Rattle.bqn_syntax.specs.declared.sign.Sign.TheVariants as sign
+use Rattle.bqn_syntax.specs.declared.token.Kind.{Kind}
+use Rattle.bqn_syntax.specs.declared.token.Kind.TheVariants as kind
+use Rattle.bqn_syntax.specs.declared.tree.Arrow.TheVariants as arrow
+use Rattle.bqn_syntax.specs.Plain.{Name, Expr, Value, Part, Leaf, Paren, Step, Apply, Assign, Stmt, Eval, MaybePart, none, some, Steps, no_steps, and_steps, Stmts, no_stmts, and_stmts}
+use Rattle.bqn_syntax.specs.Form.{function_of, number_of, subject_name}
 use Rattle.bqn_machine.specs.declared.code.Instr.{Instr}
 use Rattle.bqn_machine.specs.declared.code.Instr.TheVariants.{Const, Load, Define, Call1, Call2, Pop}
-use Rattle.bqn_machine.specs.declared.emitter.Read.{Read}
-use Rattle.bqn_machine.specs.declared.emitter.Read.TheVariants.{Empty, Whole, Pending}
-use Rattle.bqn_machine.specs.declared.emitter.Emitter.{Emitter}
 
--- how many names are defined, what is read of the innermost expression and of those around it, and the code so far
+-- the instruction of a part that is a single token
+abbrev pub leaf_instr : List (List ℕ) → Kind → Option Instr
+leaf_instr names (kind.Number z) = Some (Const z)
+leaf_instr names (kind.Word name role.Subject) = option_map (λ number. Load number) (number_of names name)
+leaf_instr names _ = None
+
+abbrev pub leaf_emitted : List Instr → Option Instr → Option (List Instr)
+leaf_emitted code instr = option_map (λ i. code ++ i ∷ []) instr
+
+abbrev mutual
+  pub part_emitted : List (List ℕ) → List Instr → Part → Option (List Instr)
+  part_emitted names code (Leaf t) = leaf_emitted code (leaf_instr names t.kind)
+  part_emitted names code (Paren e) = expr_emitted names code e
+  part_emitted names code _ = None
+
+  pub expr_emitted : List (List ℕ) → List Instr → Expr → Option (List Instr)
+  expr_emitted names code (Value last steps) = option_and_then (λ code. steps_emitted names code steps) (last_emitted names code last)
+  expr_emitted names code _ = None
+
+  pub last_emitted : List (List ℕ) → List Instr → MaybePart → Option (List Instr)
+  last_emitted names code none = None
+  last_emitted names code (some part) = part_emitted names code part
+
+  pub steps_emitted : List (List ℕ) → List Instr → Steps → Option (List Instr)
+  steps_emitted names code no_steps = Some code
+  steps_emitted names code (and_steps step steps) = option_and_then (λ code. steps_emitted names code steps) (step_emitted names code step)
+
+  pub step_emitted : List (List ℕ) → List Instr → Step → Option (List Instr)
+  step_emitted names code (Apply function left) = call_emitted names code (function_of function) left
+  step_emitted names code _ = None
+
+  pub call_emitted : List (List ℕ) → List Instr → Option Function → MaybePart → Option (List Instr)
+  call_emitted names code None left = None
+  call_emitted names code (Some f) none = Some (code ++ Call1 f ∷ [])
+  call_emitted names code (Some f) (some left) = option_map (λ code. code ++ Call2 f ∷ []) (part_emitted names code left)
+
+-- the names that are defined, and the code so far
 pub record Progress : Type 0 where
-  pub defined : ℕ
-  pub here : Read
-  pub outer : List Read
+  pub names : List (List ℕ)
   pub code : List Instr
 
--- what an emitter has come to
-abbrev pub progress : Emitter → Progress
-progress e = record { defined = e.defined; here = e.here; outer = reverse e.outer.items; code = e.code.items }
+abbrev pub progress : List (List ℕ) → List Instr → Progress
+progress names code = record { names = names; code = code }
 
--- between statements
-abbrev pub between : (defined : ℕ) → List Instr → Progress
-between defined code = record { defined = defined; here = Empty; outer = []; code = code }
+-- a name that has no number yet is defined
+abbrev pub fresh_emitted : List (List ℕ) → List Instr → List ℕ → Option ℕ → Option Progress
+fresh_emitted names code name (Some number) = None
+fresh_emitted names code name None = Some (progress (names ++ name ∷ []) (code ++ Define ∷ []))
 
--- an instruction more
-abbrev pub pushed : Progress → Instr → Progress
-pushed p i = record p { code = p.code ++ i ∷ [] }
+abbrev pub name_emitted : List (List ℕ) → List Instr → List ℕ → Option Progress
+name_emitted names code name = fresh_emitted names code name (number_of names name)
 
--- a part left of what is read, whose code stands last
-abbrev pub after_part : Progress → Option Progress
-after_part p = elim p.here [
-  | Empty ↦ Some (record p { here = Whole })
-  | Whole ↦ None
-  | Pending f ↦ Some (record p { here = Whole; code = p.code ++ Call2 f ∷ [] })
-]
+abbrev pub target_emitted : List (List ℕ) → List Instr → Kind → Option Progress
+target_emitted names code k = option_and_then (λ name. name_emitted names code name) (subject_name k)
 
--- the end of the expression that is read
-abbrev pub finished : Progress → Option Progress
-finished p = elim p.here [
-  | Empty ↦ None
-  | Whole ↦ Some (record p { here = Whole })
-  | Pending f ↦ Some (record p { here = Whole; code = p.code ++ Call1 f ∷ [] })
-]
+-- the last step of a statement may define a name
+abbrev pub last_step_emitted : List (List ℕ) → List Instr → Step → Option Progress
+last_step_emitted names code (Assign (Name t) arrow.Define) = target_emitted names code t.kind
+last_step_emitted names code step = option_map (progress names) (step_emitted names code step)
 
-abbrev pub awaiting : Function → Progress → Progress
-awaiting f p = record p { here = Pending f }
-
--- a function left of what is read
-abbrev pub after_function : Function → Progress → Option Progress
-after_function f p = option_map (awaiting f) (finished p)
-
--- an expression in parentheses begins at its right end, where fewer than 128 are around it
-abbrev pub closed : Progress → Option Progress
-closed p = if nat_lt (length p.outer) 128 then Some (record p { here = Empty; outer = p.here ∷ p.outer }) else None
-
--- an expression in parentheses is a part of the one around it
-abbrev pub rejoined : Progress → Option Progress
-rejoined p = elim p.outer [ [] ↦ None | around ∷ outer ↦ after_part (record p { here = around; outer = outer }) ]
-
-abbrev pub opened : Progress → Option Progress
-opened p = option_and_then rejoined (finished p)
-
--- one sign leftward
-abbrev pub after_sign : Progress → Sign → Option Progress
-after_sign p (sign.Number z) = after_part (pushed p (Const z))
-after_sign p (sign.Name n) = if nat_lt n p.defined then after_part (pushed p (Load n)) else None
-after_sign p (sign.Function f) = after_function f p
-after_sign p sign.Open = opened p
-after_sign p sign.Close = closed p
-after_sign p s = None
-
--- the end of the expression that no parentheses are around
-abbrev pub outermost : Progress → Option Progress
-outermost p = elim p.outer [ [] ↦ finished p | around ∷ outer ↦ None ]
+abbrev pub stmt_steps_emitted : List (List ℕ) → List Instr → Steps → Option Progress
+stmt_steps_emitted names code no_steps = Some (progress names code)
+stmt_steps_emitted names code (and_steps step no_steps) = last_step_emitted names code step
+stmt_steps_emitted names code (and_steps step (and_steps next steps)) = option_and_then (λ code. stmt_steps_emitted names code (and_steps next steps)) (step_emitted names code step)
 
 -- the value of a statement is dropped
 abbrev pub dropped : Progress → Progress
-dropped p = record p { here = Empty; code = p.code ++ Pop ∷ [] }
+dropped p = progress p.names (p.code ++ Pop ∷ [])
 
--- the next name is defined
-abbrev pub named : Progress → Progress
-named p = record p { defined = p.defined + 1; code = p.code ++ Define ∷ [] }
+abbrev pub stmt_emitted : List (List ℕ) → List Instr → Stmt → Option Progress
+stmt_emitted names code (Eval (Value last steps)) = option_map dropped (option_and_then (λ code. stmt_steps_emitted names code steps) (last_emitted names code last))
+stmt_emitted names code _ = None
 
--- the end of a statement without a name
-abbrev pub ended : Progress → Option Progress
-ended p = option_map dropped (outermost p)
-
--- the end of a statement before whose `←` this stands, which must be the next name
-abbrev pub defined_as : Progress → List Sign → Option Progress
-defined_as p (sign.Name n ∷ []) = if nat_eq n p.defined then option_map (λ q. dropped (named q)) (outermost p) else None
-defined_as p row = None
-
--- the rest of a row, its last sign first
-abbrev pub emitted : Progress → List Sign → Option Progress
-emitted p [] = ended p
-emitted p (sign.Define ∷ row) = defined_as p row
-emitted p (s ∷ row) = option_and_then (λ q. emitted q row) (after_sign p s)
-
--- a row; an empty one has no code
-abbrev pub row_emitted : Progress → List Sign → Option Progress
-row_emitted p [] = Some p
-row_emitted p (s ∷ row) = emitted p (s ∷ row)
+abbrev pub stmts_emitted : List (List ℕ) → List Instr → Stmts → Option (List Instr)
+stmts_emitted names code no_stmts = Some code
+stmts_emitted names code (and_stmts stmt stmts) = option_and_then (λ p. stmts_emitted p.names p.code stmts) (stmt_emitted names code stmt)

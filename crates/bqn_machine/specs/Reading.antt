@@ -1,5 +1,5 @@
 -- What reading a source gives, layer by layer.
-use Rattle.std.specs.Prelude.{◌≡◌, ℕ, List, ◌++◌, map, Option, Some, None, Result, Ok, Err, Vec}
+use Rattle.std.specs.Prelude.{◌≡◌, ℕ, List, map, Option, Some, None, Result, Ok, Err, Vec}
 use Rattle.bqn_machine.specs.declared.error.CompileError.{CompileError}
 use Rattle.bqn_machine.specs.declared.error.CompileError.TheVariants.{NotYet, Memory}
 
@@ -8,11 +8,6 @@ abbrev pub ReadsAs : {A V : Type 0} → (V → A) → Option A → Result V Comp
 ReadsAs view answer (Ok value) = answer ≡ Some (view value)
 ReadsAs view answer (Err NotYet) = answer ≡ None
 ReadsAs view answer (Err Memory) = Unit {0}
-
--- a list in front of another, if there is that
-abbrev pub behind : {A : Type 0} → List A → Option (List A) → Option (List A)
-behind front None = None
-behind front (Some rest) = Some (front ++ rest)
 
 -- the names that these keys spell
 abbrev pub spelled : {A : Type 0} → List (Vec ℕ A) → List (List ℕ)

@@ -1,26 +1,33 @@
 ghost use Rattle.std.specs.Option.{option_map};
-ghost use Rattle.bqn_syntax.specs.Form.{tree_of};
+ghost use Rattle.bqn_syntax.specs.Form.{form_of};
+ghost use Rattle.bqn_syntax.specs.Plain.{tree_of};
 ghost use Rattle.bqn_machine.specs.Compiling.{Compiles};
 ghost use Rattle.bqn_machine.specs.Reading.{ReadsAs};
 ghost use Rattle.bqn_machine.specs.Translation.{translation};
 
 use crate::code::Instr;
+use crate::emitter::code_of;
 use crate::error::CompileError;
-use crate::translate::code_of;
-use bqn_syntax::Token;
+use bqn_syntax::{Token, Tree};
 use std::alloc::Global;
 
-/// The code of a token list.
+/// The most tokens of a source of the form that is built so far.
+const MOST_TOKENS: usize = 4096;
+
+/// The code of a token list with this tree.
 ///
 /// # Errors
 ///
-/// `NotYet` exactly where the tokens are not of the form that is built so far, `Memory` where memory is wanting.
+/// `NotYet` exactly where they are not of the form that is built so far, `Memory` where memory is wanting.
 #[tactic(auto, using(crate::proofs::Compiled::compile_laws))]
-pub fn compile(alloc: Global, tokens: &[Token]) -> Result<Vec<Instr>, CompileError>
-    ensures translated { ReadsAs (λ code. code.items) (option_map translation (tree_of tokens.now)) result }
-    ensures meaning { Compiles (tree_of tokens.now) result }
+pub fn compile(alloc: Global, tokens: &[Token], tree: &Tree) -> Result<Vec<Instr>, CompileError>
+    ensures translated { ReadsAs (λ code. code.items) (option_map translation (form_of tokens.now (tree_of tree.now))) result }
+    ensures meaning { Compiles (form_of tokens.now (tree_of tree.now)) result }
 {
-    code_of(alloc, tokens)
+    if tokens.len() > MOST_TOKENS {
+        return Err(CompileError::NotYet);
+    }
+    code_of(alloc, tree.statements.list())
 }
 
 #[cfg(test)]

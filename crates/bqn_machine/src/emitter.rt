@@ -1,212 +1,243 @@
-ghost use Rattle.std.specs.Prelude.{◌≡◌, ◌+◌, ◌<◌, ◌≤◌, ◌^◌, [], OnOk, Some, reverse};
-ghost use Rattle.bqn_machine.specs.Emission.{after_function, after_part, after_sign, between, closed, defined_as, dropped, emitted, ended, finished, opened, outermost, progress, pushed, row_emitted};
-ghost use Rattle.bqn_machine.specs.Reading.{ReadsAs};
+//! The code of a tree, emitted in order of evaluation: the last part of a value, and then for each
+//! step the part left of its function, if there is one, and the call.
+
+ghost use Rattle.std.specs.Prelude.{◌≡◌, Some, map, []};
+ghost use Rattle.bqn_syntax.specs.Plain.{expr_of, part_of, step_of, stmt_of, steps as plain_steps, stmts as plain_stmts};
+ghost use Rattle.std.specs.Option.{option_map};
+ghost use Rattle.bqn_syntax.specs.Form.{number_of as number_in};
+ghost use Rattle.bqn_syntax.specs.Form.{subject_name as subject_name_in};
+ghost use Rattle.bqn_machine.specs.Emission.{expr_emitted, last_step_emitted, leaf_emitted, leaf_instr, name_emitted, part_emitted, progress, step_emitted, steps_emitted, stmt_emitted, stmt_steps_emitted, stmts_emitted, target_emitted};
+ghost use Rattle.bqn_machine.specs.Reading.{ReadsAs, spelled};
 
 use crate::code::Instr;
 use crate::error::CompileError;
-use bqn_syntax::{Function, Sign};
+use crate::functions::function_of;
+use bqn_base::Role;
+use bqn_syntax::{Arrow, Expr, Kind, Part, Pattern, Step, Stmt};
+use indexmap::IndexSet;
 use std::alloc::Global;
 
-/// The most parentheses that are open at one place.
-const MOST_PARENTHESES: usize = 128;
-
-/// What is read of an expression, from its right end leftward: nothing, an expression, or also a
-/// function left of it, whose call is not emitted yet.
-#[derive(Clone, Copy, Debug, PartialEq, Eq)]
-pub(crate) enum Read {
-    Empty,
-    Whole,
-    Pending(Function),
+/// The number of a name, if it is defined.
+#[tactic(auto, using(crate::proofs::Spelling::name_laws))]
+fn number_of(names: &IndexSet<Vec<char>>, name: &[char]) -> Option<usize>
+    ensures { result ≡ number_in (spelled names.now.keys) name.now }
+{
+    names.get_index_of(name)
 }
 
-/// The code so far of a source whose statements are read leftward.
-#[derive(Debug, Drop)]
-pub(crate) struct Emitter {
-    /// How many names are defined.
-    defined: usize,
-    /// What is read of the innermost expression.
-    here: Read,
-    /// What is read of the expressions around it, the innermost last.
-    outer: Vec<Read>,
-    pub(crate) code: Vec<Instr>,
+/// The instruction of a part that is a single token.
+fn instr_of(names: &IndexSet<Vec<char>>, kind: &Kind) -> Option<Instr>
+    ensures { result ≡ leaf_instr (spelled names.now.keys) kind.now }
+{
+    match kind {
+        Kind::Number(number) => Some(Instr::Const(*number)),
+        Kind::Word(name, Role::Subject) => number_of(names, name.chars()).map(Instr::Load),
+        _ => None,
+    }
 }
 
-impl Emitter {
-    /// Nothing is read yet.
-    pub(crate) fn new(alloc: Global) -> Emitter
-        ensures { progress result ≡ between 0 [] }
-    {
-        Emitter {
-            defined: 0,
-            here: Read::Empty,
-            outer: Vec::new(alloc),
-            code: Vec::new(alloc),
+fn emit_leaf(
+    names: &IndexSet<Vec<char>>,
+    kind: &Kind,
+    code: &mut Vec<Instr>,
+) -> Result<(), CompileError>
+    ensures { ReadsAs (λ done. code.new.items) (leaf_emitted code.old.items (leaf_instr (spelled names.now.keys) kind.now)) result }
+{
+    let Some(instr) = instr_of(names, kind) else {
+        return Err(CompileError::NotYet);
+    };
+    code.push(instr)?;
+    Ok(())
+}
+
+#[cycle(emit)]
+#[tactic(auto, using(bqn_syntax::specs::Levels::levels))]
+fn emit_part(
+    names: &IndexSet<Vec<char>>,
+    part: &Part,
+    code: &mut Vec<Instr>,
+) -> Result<(), CompileError>
+    ensures { ReadsAs (λ done. code.new.items) (part_emitted (spelled names.now.keys) code.old.items (part_of part.now)) result }
+{
+    match part {
+        Part::Leaf(token) => emit_leaf(names, &token.kind, code),
+        Part::Paren(inner) => emit_expr(names, inner.get(), code),
+        _ => Err(CompileError::NotYet),
+    }
+}
+
+#[cycle(emit)]
+#[tactic(auto, using(bqn_syntax::specs::Levels::levels))]
+fn emit_expr(
+    names: &IndexSet<Vec<char>>,
+    expr: &Expr,
+    code: &mut Vec<Instr>,
+) -> Result<(), CompileError>
+    ensures { ReadsAs (λ done. code.new.items) (expr_emitted (spelled names.now.keys) code.old.items (expr_of expr.now)) result }
+{
+    match expr {
+        Expr::Value {
+            last: Some(part),
+            steps,
+        } => {
+            emit_part(names, part, code)?;
+            emit_steps(names, steps.list(), code)
+        }
+        _ => Err(CompileError::NotYet),
+    }
+}
+
+#[cycle(emit)]
+#[tactic(auto, using(bqn_syntax::specs::Levels::levels))]
+fn emit_steps(
+    names: &IndexSet<Vec<char>>,
+    steps: &[Step],
+    code: &mut Vec<Instr>,
+) -> Result<(), CompileError>
+    ensures { ReadsAs (λ done. code.new.items) (steps_emitted (spelled names.now.keys) code.old.items (plain_steps (map step_of steps.now))) result }
+{
+    for step in steps {
+        emit_step(names, step, code)?;
+    }
+    Ok(())
+}
+
+#[cycle(emit)]
+#[tactic(auto, using(bqn_syntax::specs::Levels::levels))]
+fn emit_step(
+    names: &IndexSet<Vec<char>>,
+    step: &Step,
+    code: &mut Vec<Instr>,
+) -> Result<(), CompileError>
+    ensures { ReadsAs (λ done. code.new.items) (step_emitted (spelled names.now.keys) code.old.items (step_of step.now)) result }
+{
+    let Step::Apply { function, left } = step else {
+        return Err(CompileError::NotYet);
+    };
+    let Some(function) = function_of(function) else {
+        return Err(CompileError::NotYet);
+    };
+    match left {
+        None => code.push(Instr::Call1(function))?,
+        Some(left) => {
+            emit_part(names, left, code)?;
+            code.push(Instr::Call2(function))?;
         }
     }
+    Ok(())
+}
 
-    /// Takes a part left of what is read, whose code stands last.
-    fn end_part(&mut self) -> Result<(), CompileError>
-        ensures read { ReadsAs (λ done. progress self.new) (after_part (progress self.old)) result }
-        ensures kept { self.new.defined ≡ self.old.defined }
-    {
-        match self.here {
-            Read::Empty => {}
-            Read::Whole => return Err(CompileError::NotYet),
-            Read::Pending(function) => self.code.push(Instr::Call2(function))?,
-        }
-        self.here = Read::Whole;
-        Ok(())
+/// The name of a subject.
+fn subject_name(kind: &Kind) -> Option<&[char]>
+    ensures { option_map (λ name. name.now) result ≡ subject_name_in kind.now }
+{
+    match kind {
+        Kind::Word(name, Role::Subject) => Some(name.chars()),
+        _ => None,
     }
+}
 
-    /// Takes a part of one instruction.
-    fn part(&mut self, instr: Instr) -> Result<(), CompileError>
-        ensures read { ReadsAs (λ done. progress self.new) (after_part (pushed (progress self.old) instr)) result }
-        ensures kept { self.new.defined ≡ self.old.defined }
-    {
-        self.code.push(instr)?;
-        self.end_part()
+/// Defines a name that is not defined yet.
+fn emit_definition(
+    alloc: Global,
+    names: &mut IndexSet<Vec<char>>,
+    name: &[char],
+    code: &mut Vec<Instr>,
+) -> Result<(), CompileError>
+    ensures { ReadsAs (λ done. progress (spelled names.new.keys) code.new.items) (name_emitted (spelled names.old.keys) code.old.items name.now) result }
+{
+    if let Some(_) = names.get_index_of(name) {
+        return Err(CompileError::NotYet);
     }
+    names.insert_full(Vec::from_slice(alloc, name)?)?;
+    code.push(Instr::Define)?;
+    Ok(())
+}
 
-    /// Ends the expression that is read.
-    fn finish(&mut self) -> Result<(), CompileError>
-        ensures read { ReadsAs (λ done. progress self.new) (finished (progress self.old)) result }
-        ensures kept { self.new.defined ≡ self.old.defined }
-    {
-        match self.here {
-            Read::Empty => return Err(CompileError::NotYet),
-            Read::Whole => {}
-            Read::Pending(function) => self.code.push(Instr::Call1(function))?,
-        }
-        self.here = Read::Whole;
-        Ok(())
-    }
+fn emit_target(
+    alloc: Global,
+    names: &mut IndexSet<Vec<char>>,
+    kind: &Kind,
+    code: &mut Vec<Instr>,
+) -> Result<(), CompileError>
+    ensures { ReadsAs (λ done. progress (spelled names.new.keys) code.new.items) (target_emitted (spelled names.old.keys) code.old.items kind.now) result }
+{
+    let Some(name) = subject_name(kind) else {
+        return Err(CompileError::NotYet);
+    };
+    emit_definition(alloc, names, name, code)
+}
 
-    /// Takes a function left of what is read.
-    fn function(&mut self, function: Function) -> Result<(), CompileError>
-        ensures read { ReadsAs (λ done. progress self.new) (after_function function (progress self.old)) result }
-        ensures kept { self.new.defined ≡ self.old.defined }
+/// Emits the last step of a statement, which may define a name.
+#[tactic(auto, using(bqn_syntax::specs::Levels::levels))]
+fn emit_last_step(
+    alloc: Global,
+    names: &mut IndexSet<Vec<char>>,
+    step: &Step,
+    code: &mut Vec<Instr>,
+) -> Result<(), CompileError>
+    ensures { ReadsAs (λ done. progress (spelled names.new.keys) code.new.items) (last_step_emitted (spelled names.old.keys) code.old.items (step_of step.now)) result }
+{
+    if let Step::Assign {
+        target: Pattern::Name(token),
+        arrow: Arrow::Define,
+    } = step
     {
-        self.finish()?;
-        self.here = Read::Pending(function);
-        Ok(())
+        return emit_target(alloc, names, &token.kind, code);
     }
+    emit_step(names, step, code)
+}
 
-    /// Takes the closing parenthesis of an expression that is read next.
-    fn close(&mut self) -> Result<(), CompileError>
-        ensures read { ReadsAs (λ done. progress self.new) (closed (progress self.old)) result }
-        ensures kept { self.new.defined ≡ self.old.defined }
-    {
-        if self.outer.len() >= MOST_PARENTHESES {
-            return Err(CompileError::NotYet);
-        }
-        self.outer.push(self.here)?;
-        self.here = Read::Empty;
-        Ok(())
-    }
+#[tactic(auto, using(crate::proofs::Emitting::step_laws))]
+fn emit_stmt_steps(
+    alloc: Global,
+    names: &mut IndexSet<Vec<char>>,
+    steps: &[Step],
+    code: &mut Vec<Instr>,
+) -> Result<(), CompileError>
+    ensures { ReadsAs (λ done. progress (spelled names.new.keys) code.new.items) (stmt_steps_emitted (spelled names.old.keys) code.old.items (plain_steps (map step_of steps.now))) result }
+{
+    let Some((last, front)) = steps.split_last() else {
+        return Ok(());
+    };
+    emit_steps(names, front, code)?;
+    emit_last_step(alloc, names, last, code)
+}
 
-    /// Takes the opening parenthesis of the expression that is read.
-    fn open(&mut self) -> Result<(), CompileError>
-        ensures read { ReadsAs (λ done. progress self.new) (opened (progress self.old)) result }
-        ensures kept { self.new.defined ≡ self.old.defined }
-    {
-        self.finish()?;
-        let Some(around) = self.outer.pop() else {
-            return Err(CompileError::NotYet);
-        };
-        self.here = around;
-        self.end_part()
-    }
+/// Emits a statement, whose value is dropped.
+#[tactic(auto, using(bqn_syntax::specs::Levels::levels))]
+fn emit_stmt(
+    alloc: Global,
+    names: &mut IndexSet<Vec<char>>,
+    stmt: &Stmt,
+    code: &mut Vec<Instr>,
+) -> Result<(), CompileError>
+    ensures { ReadsAs (λ done. progress (spelled names.new.keys) code.new.items) (stmt_emitted (spelled names.old.keys) code.old.items (stmt_of stmt.now)) result }
+{
+    let Stmt::Eval(
+        Expr::Value {
+            last: Some(part),
+            steps,
+        },
+    ) = stmt
+    else {
+        return Err(CompileError::NotYet);
+    };
+    emit_part(names, part, code)?;
+    emit_stmt_steps(alloc, names, steps.list(), code)?;
+    code.push(Instr::Pop)?;
+    Ok(())
+}
 
-    /// Takes the next sign leftward, unless it is `←`.
-    fn sign(&mut self, sign: Sign) -> Result<(), CompileError>
-        ensures read { ReadsAs (λ done. progress self.new) (after_sign (progress self.old) sign) result }
-        ensures kept { self.new.defined ≡ self.old.defined }
-    {
-        match sign {
-            Sign::Number(number) => self.part(Instr::Const(number)),
-            Sign::Name(number) if number < self.defined => self.part(Instr::Load(number)),
-            Sign::Function(function) => self.function(function),
-            Sign::Open => self.open(),
-            Sign::Close => self.close(),
-            _ => Err(CompileError::NotYet),
-        }
+/// The code of the statements of a tree.
+#[tactic(auto, using(bqn_syntax::specs::Levels::levels))]
+pub(crate) fn code_of(alloc: Global, stmts: &[Stmt]) -> Result<Vec<Instr>, CompileError>
+    ensures { ReadsAs (λ code. code.items) (stmts_emitted [] [] (plain_stmts (map stmt_of stmts.now))) result }
+{
+    let mut names = IndexSet::new(alloc);
+    let mut code = Vec::new(alloc);
+    for stmt in stmts {
+        emit_stmt(alloc, &mut names, stmt, &mut code)?;
     }
-
-    /// Ends the expression that no parentheses are around.
-    fn finish_outermost(&mut self) -> Result<(), CompileError>
-        ensures read { ReadsAs (λ done. progress self.new) (outermost (progress self.old)) result }
-        ensures kept { self.new.defined ≡ self.old.defined }
-    {
-        if !self.outer.is_empty() {
-            return Err(CompileError::NotYet);
-        }
-        self.finish()
-    }
-
-    /// Drops the value of the statement that is read.
-    fn drop_value(&mut self) -> Result<(), CompileError>
-        ensures read { ReadsAs (λ done. progress self.new) (Some (dropped (progress self.old))) result }
-        ensures kept { self.new.defined ≡ self.old.defined }
-    {
-        self.code.push(Instr::Pop)?;
-        self.here = Read::Empty;
-        Ok(())
-    }
-
-    /// Ends a statement without a name.
-    fn end(&mut self) -> Result<(), CompileError>
-        ensures read { ReadsAs (λ done. progress self.new) (ended (progress self.old)) result }
-        ensures kept { self.new.defined ≡ self.old.defined }
-    {
-        self.finish_outermost()?;
-        self.drop_value()
-    }
-
-    /// Ends a statement before whose `←` this row stands, which is emptied.
-    #[tactic(auto, using(crate::proofs::Rows::row_laws))]
-    fn define(&mut self, row: &mut Vec<Sign>) -> Result<(), CompileError>
-        requires { self.now.defined < 2 ^ 63 }
-        ensures read { ReadsAs (λ done. progress self.new) (defined_as (progress self.old) (reverse row.old.items)) result }
-        ensures emptied { OnOk result (row.new.items ≡ []) }
-        ensures counted { self.new.defined ≤ self.old.defined + 1 }
-    {
-        if row.pop() != Some(Sign::Name(self.defined)) || !row.is_empty() {
-            return Err(CompileError::NotYet);
-        }
-        self.finish_outermost()?;
-        self.code.push(Instr::Define)?;
-        self.defined += 1;
-        self.drop_value()
-    }
-
-    /// Emits the statement of a row, which is read leftward and emptied.
-    #[tactic(auto, using(crate::proofs::Rows::row_laws))]
-    fn statement(&mut self, row: &mut Vec<Sign>) -> Result<(), CompileError>
-        requires { self.now.defined < 2 ^ 63 }
-        ensures read { ReadsAs (λ done. progress self.new) (emitted (progress self.old) (reverse row.old.items)) result }
-        ensures emptied { OnOk result (row.new.items ≡ []) }
-        ensures counted { self.new.defined ≤ self.old.defined + 1 }
-    {
-        'row: while let Some(sign) = row.pop() {
-            match sign {
-                Sign::Define => return self.define(row),
-                sign => self.sign(sign)?,
-            }
-        }
-        self.end()
-    }
-
-    /// Emits the statement of a row, unless it is empty, and empties it.
-    #[tactic(auto, using(crate::proofs::Rows::row_laws))]
-    pub(crate) fn end_row(&mut self, row: &mut Vec<Sign>) -> Result<(), CompileError>
-        requires { self.now.defined < 2 ^ 63 }
-        ensures read { ReadsAs (λ done. progress self.new) (row_emitted (progress self.old) (reverse row.old.items)) result }
-        ensures emptied { OnOk result (row.new.items ≡ []) }
-        ensures counted { self.new.defined ≤ self.old.defined + 1 }
-    {
-        if row.is_empty() {
-            return Ok(());
-        }
-        self.statement(row)
-    }
+    Ok(code)
 }

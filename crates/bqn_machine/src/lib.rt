@@ -1,4 +1,4 @@
-//! The machine: how a token list of the form that is built so far becomes code, and how code runs.
+//! The machine: how a tree of the form that is built so far becomes code, and how code runs.
 #![tactic(auto)]
 
 mod call;
@@ -7,10 +7,9 @@ mod compiler;
 mod emitter;
 mod end;
 mod error;
+mod functions;
 mod line;
 mod run;
-mod signs;
-mod translate;
 
 pub use code::Instr;
 pub use compiler::compile;

@@ -1,5 +1,5 @@
 -- Cuts, trees and evaluations, computed.
-use Rattle.std.proofs.Common.{◌≡◌, ℕ, ℤ, pos, pos, List, [], ◌∷◌, Option, Some, None, Ok, refl}
+use Rattle.std.proofs.Common.{◌≡◌, ℕ, ℤ, pos, List, [], ◌∷◌, Option, Some, None, Ok, refl}
 use Rattle.std.specs.Str.{chars, is_utf8}
 use Rattle.std.specs.Option.{option_map, option_and_then}
 use Rattle.std.specs.Result.{result_ok}
@@ -10,7 +10,8 @@ use lib.Utf8.{encode}
 use Rattle.bqn_base.specs.declared.fault.Fault.TheVariants.{Overflow, Domain}
 use Rattle.bqn_syntax.specs.Text.{text_of}
 use Rattle.bqn_syntax.specs.Cut.{pieces_of}
-use Rattle.bqn_syntax.specs.Form.{tree_of}
+use Rattle.bqn_syntax.specs.Form.{form_of}
+use Rattle.bqn_syntax.specs.Parsing.{parsed}
 use Rattle.bqn_syntax.specs.Tokens.{tokens_of_source}
 use Rattle.bqn_syntax.specs.Evaluation.{Res, Gives, Faults, Spends, State, evaluated}
 
@@ -47,7 +48,7 @@ abbrev source : List ℕ → List ℕ
 source text = encode_utf8_all text
 
 abbrev seen : List ℕ → ℕ → Option (Res (Unit {0}))
-seen text steps = option_and_then (λ tokens. option_map (λ tree. evaluated tree steps) (tree_of tokens)) (result_ok (tokens_of_source (source text)))
+seen text steps = option_and_then (λ tokens. option_map (λ form. evaluated form steps) (option_and_then (form_of tokens) (result_ok (parsed tokens)))) (result_ok (tokens_of_source (source text)))
 
 abbrev state : List ℕ → ℕ → State
 state text left = record { written = encode_utf8_all text; left = left; vars = [] }

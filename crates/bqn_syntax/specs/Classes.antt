@@ -189,11 +189,11 @@ class_if c ms = if list_all has_statement ms && plain_last (most_plain c) ms the
 abbrev pub class_of : List Marks → Option Class
 class_of ms =
     if list_any has_two ms then
-      (if list_any has_one_self ms || list_any has_function ms then None
-       else class_if (if list_any is_deferred ms then class.Mod2Deferred else class.Mod2) ms)
+    (if list_any has_one_self ms || list_any has_function ms then None
+    else class_if (if list_any is_deferred ms then class.Mod2Deferred else class.Mod2) ms)
     else if list_any has_one ms then
-      (if list_any has_function ms then None
-       else class_if (if list_any is_deferred ms then class.Mod1Deferred else class.Mod1) ms)
+    (if list_any has_function ms then None
+    else class_if (if list_any is_deferred ms then class.Mod1Deferred else class.Mod1) ms)
     else if list_any (λ m. m.seen.args || has_function m) ms then class_if class.Function ms
     else class_if class.Immediate ms
 

@@ -6,7 +6,7 @@ use Rattle.bqn_syntax.specs.declared.tree.Arrow.{Arrow}
 use Rattle.bqn_syntax.specs.declared.tree.Arrow.TheVariants as arrow
 use Rattle.bqn_syntax.specs.declared.sort.Tag.{Tag}
 use Rattle.bqn_syntax.specs.declared.sort.Tag.TheVariants as tag
-use Rattle.bqn_syntax.specs.Sorts.{tag as tag_of, named, is_word}
+use Rattle.bqn_syntax.specs.Sorts.{tag as tag_of, named}
 use Rattle.bqn_syntax.specs.Items.{Item, terms_of, leaf_pattern}
 use Rattle.bqn_syntax.specs.Units.{Unit', Subject, Function, Absent, Alone, Arrow', Aim, units_of}
 use Rattle.bqn_syntax.specs.Plain.{Pattern, Name, Skip, Expr, Value, Train, Modifier, Part, Leaf, Nothing, Step, Apply, Assign, Modify, Stmt, Eval, Predicate, Export, Derived, derived, MaybePart, none, some, no_uses, Steps, no_steps, and_steps, Deriveds, no_deriveds, and_deriveds}

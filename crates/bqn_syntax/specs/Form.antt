@@ -1,131 +1,133 @@
--- The token lists that are built so far: numbers, subject names, `←`, parentheses, `+`, `-`, `×`, `•Show` and separators,
--- at most 4,096 tokens. Tokens are compared by what they are, so their spelling does not count.
-use Rattle.std.specs.Prelude.{ℕ, ◌+◌, nat_le, nat_lt, nat_eq, ◌==◌, true, false, if◌then◌else◌, List, [], ◌∷◌, ◌++◌, length, position, codes as ascii, Option, Some, None}
+-- The trees that are built so far: values of numbers, of the names that an earlier statement defines and of parentheses, under
+-- `+`, `-`, `×` and `•Show`, and statements, each perhaps with a name that it defines; of at most 4,096 tokens. Tokens are
+-- compared by what they are, so their spelling does not count.
+use Rattle.std.specs.Prelude.{ℕ, nat_le, nat_eq, ◌==◌, true, false, if◌then◌else◌, List, [], ◌∷◌, ◌++◌, length, position, codes as ascii, Option, Some, None}
 use Rattle.std.specs.Cmp.Lexicographic.{pointwise}
 use Rattle.std.specs.Option.{option_map, option_and_then}
-use lib.Chars.{codes}
 use Rattle.bqn_base.specs.declared.role.Role.TheVariants as role
 use Rattle.bqn_syntax.specs.declared.function.Function.{Function}
 use Rattle.bqn_syntax.specs.declared.function.Function.TheVariants.{Plus, Minus, Times, Show}
-use Rattle.bqn_syntax.specs.declared.sign.Sign.{Sign}
-use Rattle.bqn_syntax.specs.declared.sign.Sign.TheVariants as sign
 use Rattle.bqn_syntax.specs.declared.token.Kind.{Kind}
 use Rattle.bqn_syntax.specs.declared.token.Kind.TheVariants as kind
 use Rattle.bqn_syntax.specs.declared.token.Token.{Token}
-use Rattle.bqn_syntax.specs.Table.{is_one_of}
+use Rattle.bqn_syntax.specs.declared.tree.Arrow.TheVariants as arrow
+use Rattle.bqn_syntax.specs.Plain as plain
+use Rattle.bqn_syntax.specs.Plain.{Name as Target, Leaf, Apply, Assign, Eval, derived, no_uses, none, some, Steps, no_steps, and_steps, Stmts, no_stmts, and_stmts}
 use Rattle.bqn_syntax.specs.Tree.{Part, Number, Name, Paren, Expr, Value, Apply1, Apply2, Stmt}
 
--- `⋄`, the comma and the newline
-abbrev pub separators : List ℕ
-separators = 10 ∷ codes "⋄,"
+-- Functions.
 
 -- the function of a code: `+`, `-` and `×` are 0, 1 and 2
-abbrev pub given_sign : ℕ → Option Sign
-given_sign code =
-    if code == 0 then Some (sign.Function Plus)
-    else if code == 1 then Some (sign.Function Minus)
-    else if code == 2 then Some (sign.Function Times)
+abbrev pub given_function : ℕ → Option Function
+given_function code =
+    if code == 0 then Some Plus
+    else if code == 1 then Some Minus
+    else if code == 2 then Some Times
     else None
 
-abbrev pub punct_sign : ℕ → Option Sign
-punct_sign c =
-    if is_one_of separators c then Some sign.Separator
-    else if c == 8592 then Some sign.Define
-    else if c == 40 then Some sign.Open
-    else if c == 41 then Some sign.Close
-    else None
+abbrev pub kind_function : Kind → Option Function
+kind_function (kind.Given code) = given_function code
+kind_function (kind.System name role.Function) = if pointwise nat_eq name (ascii "show") then Some Show else None
+kind_function _ = None
 
--- a sign, and the names so far by their numbers
-pub record Numbered : Type 0 where
-  pub sign : Sign
+abbrev pub part_function : plain.Part → Option Function
+part_function (Leaf t) = kind_function t.kind
+part_function _ = None
+
+-- a function without modifiers
+abbrev pub function_of : plain.Derived → Option Function
+function_of (derived part no_uses) = part_function part
+function_of _ = None
+
+-- Values, behind statements that define these names. The number of a name is its place among them.
+
+abbrev pub number_of : List (List ℕ) → List ℕ → Option ℕ
+number_of names name = position (λ other. pointwise nat_eq other name) names
+
+abbrev pub leaf_in : List (List ℕ) → Kind → Option Part
+leaf_in names (kind.Number z) = Some (Number z)
+leaf_in names (kind.Word name role.Subject) = option_map (λ number. Name number) (number_of names name)
+leaf_in names _ = None
+
+abbrev pub applied1 : Option Function → Expr → Option Expr
+applied1 f e = option_map (λ f. Apply1 f e) f
+
+abbrev pub applied2 : Option Function → Option Part → Expr → Option Expr
+applied2 (Some f) (Some left) e = Some (Apply2 f left e)
+applied2 _ left e = None
+
+abbrev mutual
+  pub part_in : List (List ℕ) → plain.Part → Option Part
+  part_in names (Leaf t) = leaf_in names t.kind
+  part_in names (plain.Paren e) = option_map (λ e. Paren e) (expr_in names e)
+  part_in names _ = None
+
+  pub expr_in : List (List ℕ) → plain.Expr → Option Expr
+  expr_in names (plain.Value last steps) = option_and_then (λ part. steps_in names (Value part) steps) (last_in names last)
+  expr_in names _ = None
+
+  pub last_in : List (List ℕ) → plain.MaybePart → Option Part
+  last_in names none = None
+  last_in names (some part) = part_in names part
+
+  -- what is done with an expression, from right to left
+  pub steps_in : List (List ℕ) → Expr → Steps → Option Expr
+  steps_in names e no_steps = Some e
+  steps_in names e (and_steps step steps) = option_and_then (λ e. steps_in names e steps) (step_in names e step)
+
+  pub step_in : List (List ℕ) → Expr → plain.Step → Option Expr
+  step_in names e (Apply function left) = call_in names (function_of function) e left
+  step_in names e _ = None
+
+  pub call_in : List (List ℕ) → Option Function → Expr → plain.MaybePart → Option Expr
+  call_in names f e none = applied1 f e
+  call_in names f e (some left) = applied2 f (part_in names left) e
+
+-- Statements.
+
+-- a statement, and the names that are defined behind it
+pub record Stated : Type 0 where
+  pub stmt : Stmt
   pub names : List (List ℕ)
 
--- a name has the number of its first occurrence
-abbrev pub name_sign : List (List ℕ) → List ℕ → Numbered
-name_sign names name = elim (position (λ other. pointwise nat_eq other name) names) [
-  | Some number ↦ record { sign = sign.Name number; names = names }
-  | None ↦ record { sign = sign.Name (length names); names = names ++ name ∷ [] }
-]
+abbrev pub unnamed : List (List ℕ) → Expr → Stated
+unnamed names e = record { stmt = record { target = None; value = e }; names = names }
 
-abbrev pub plain_sign : List (List ℕ) → Option Sign → Option Numbered
-plain_sign names s = option_map (λ s. record { sign = s; names = names }) s
+-- a name that is not yet defined is the next one
+abbrev pub fresh : List (List ℕ) → List ℕ → Option ℕ → Expr → Option Stated
+fresh names name (Some number) e = None
+fresh names name None e = Some (record { stmt = record { target = Some (length names); value = e }; names = names ++ name ∷ [] })
 
--- the part that a token plays behind these names, or none
-abbrev pub sign_of : List (List ℕ) → Kind → Option Numbered
-sign_of names (kind.Number z) = plain_sign names (Some (sign.Number z))
-sign_of names (kind.Given code) = plain_sign names (given_sign code)
-sign_of names (kind.Punct c) = plain_sign names (punct_sign c)
-sign_of names (kind.System name role.Function) = plain_sign names (if pointwise nat_eq name (ascii "show") then Some (sign.Function Show) else None)
-sign_of names (kind.Word name role.Subject) = Some (name_sign names name)
-sign_of names _ = None
+-- the name of a subject
+abbrev pub subject_name : Kind → Option (List ℕ)
+subject_name (kind.Word name role.Subject) = Some name
+subject_name _ = None
 
-abbrev pub signs_of : List (List ℕ) → List Token → Option (List Sign)
-signs_of names [] = Some []
-signs_of names (t ∷ tokens) = elim (sign_of names t.kind) [ None ↦ None | Some n ↦ option_map (λ more. n.sign ∷ more) (signs_of n.names tokens) ]
+abbrev pub name_in : List (List ℕ) → List ℕ → Expr → Option Stated
+name_in names name e = fresh names name (number_of names name) e
 
--- what is read of an expression, from its right end leftward: nothing, an expression, or also a function left of it
-pub data Reading : Type 0 where
-  Empty : Reading
-  Whole : Expr → Reading
-  Pending : Function → Expr → Reading
+abbrev pub target_in : List (List ℕ) → Kind → Expr → Option Stated
+target_in names k e = option_and_then (λ name. name_in names name e) (subject_name k)
 
--- a part left of what is read: the left argument of a function that stands there
-abbrev pub with_part : Part → Reading → Option Reading
-with_part part Empty = Some (Whole (Value part))
-with_part part (Whole e) = None
-with_part part (Pending f e) = Some (Whole (Apply2 f part e))
+-- the last step of a statement may define a name
+abbrev pub last_step_in : List (List ℕ) → Expr → plain.Step → Option Stated
+last_step_in names e (Assign (Target t) arrow.Define) = target_in names t.kind e
+last_step_in names e step = option_map (unnamed names) (step_in names e step)
 
--- a function left of what is read; one that stands there has no left argument
-abbrev pub with_function : Function → Reading → Option Reading
-with_function f Empty = None
-with_function f (Whole e) = Some (Pending f e)
-with_function f (Pending g e) = Some (Pending f (Apply1 g e))
+abbrev pub stmt_steps_in : List (List ℕ) → Expr → Steps → Option Stated
+stmt_steps_in names e no_steps = Some (unnamed names e)
+stmt_steps_in names e (and_steps step no_steps) = last_step_in names e step
+stmt_steps_in names e (and_steps step (and_steps next steps)) = option_and_then (λ e. stmt_steps_in names e (and_steps next steps)) (step_in names e step)
 
--- the expression that is read
-abbrev pub finished : Reading → Option Expr
-finished Empty = None
-finished (Whole e) = Some e
-finished (Pending f e) = Some (Apply1 f e)
+abbrev pub stmt_in : List (List ℕ) → plain.Stmt → Option Stated
+stmt_in names (Eval (plain.Value last steps)) = option_and_then (λ part. stmt_steps_in names (Value part) steps) (last_in names last)
+stmt_in names _ = None
 
--- a name that is defined by an earlier statement
-abbrev pub known : (defined : ℕ) → ℕ → Option Part
-known defined number = if nat_lt number defined then Some (Name number) else None
+-- the statements that follow those which define these names
+abbrev pub statements_in : List (List ℕ) → Stmts → Option (List Stmt)
+statements_in names no_stmts = Some []
+statements_in names (and_stmts stmt stmts) = option_and_then (λ s. option_map (λ more. s.stmt ∷ more) (statements_in s.names stmts)) (stmt_in names stmt)
 
-abbrev pub whole_stmt : Option ℕ → Option Expr → Option Stmt
-whole_stmt target e = option_map (λ value. record { target = target; value = value }) e
-
--- a name that is the next to be defined
-abbrev pub fresh : (defined : ℕ) → ℕ → Option Expr → Option Stmt
-fresh defined number e = if nat_eq number defined then whole_stmt (Some number) e else None
-
--- the statement of a row, its last sign first, behind what is read of it and of the expressions around it;
--- names are defined by earlier statements, and at most 128 parentheses are open
-abbrev pub stmt_of : (defined : ℕ) → Reading → List Reading → List Sign → Option Stmt
-stmt_of defined here outer (sign.Number z ∷ row) = option_and_then (λ r. stmt_of defined r outer row) (with_part (Number z) here)
-stmt_of defined here outer (sign.Name n ∷ row) = option_and_then (λ r. stmt_of defined r outer row) (option_and_then (λ p. with_part p here) (known defined n))
-stmt_of defined here outer (sign.Function f ∷ row) = option_and_then (λ r. stmt_of defined r outer row) (with_function f here)
-stmt_of defined here outer (sign.Close ∷ row) = if nat_lt (length outer) 128 then stmt_of defined Empty (here ∷ outer) row else None
-stmt_of defined here (around ∷ outer) (sign.Open ∷ row) = option_and_then (λ r. stmt_of defined r outer row) (option_and_then (λ e. with_part (Paren e) around) (finished here))
-stmt_of defined here [] (sign.Define ∷ sign.Name n ∷ []) = fresh defined n (finished here)
-stmt_of defined here [] [] = whole_stmt None (finished here)
-stmt_of defined here outer _ = None
-
--- how many names are defined behind a statement
-abbrev pub defined_by : (defined : ℕ) → Option ℕ → ℕ
-defined_by defined None = defined
-defined_by defined (Some number) = defined + 1
-
--- the statement of a row, and those behind it, by how many names are then defined; an empty row is none
-abbrev pub after_row : (defined : ℕ) → List Sign → (ℕ → Option (List Stmt)) → Option (List Stmt)
-after_row defined [] more = more defined
-after_row defined (s ∷ row) more = option_and_then (λ st. option_map (λ sts. st ∷ sts) (more (defined_by defined st.target))) (stmt_of defined Empty [] (s ∷ row))
-
--- the statements of a row that is read so far, its last sign first, and of the signs behind it
-abbrev pub statements_of : (defined : ℕ) → List Sign → List Sign → Option (List Stmt)
-statements_of defined row [] = after_row defined row (λ d. Some [])
-statements_of defined row (sign.Separator ∷ signs) = after_row defined row (λ d. statements_of d [] signs)
-statements_of defined row (s ∷ signs) = statements_of defined (s ∷ row) signs
-
--- the statements of a token list of the form, or none
-abbrev pub tree_of : List Token → Option (List Stmt)
-tree_of tokens = elim (nat_le (length tokens) 4096) [ false ↦ None | true ↦ option_and_then (statements_of 0 []) (signs_of [] tokens) ]
+-- the statements of a token list with this tree, or none where they are not of the form that is built so far
+abbrev pub form_of : List Token → Stmts → Option (List Stmt)
+form_of tokens stmts = elim (nat_le (length tokens) 4096) [ false ↦ None | true ↦ statements_in [] stmts ]

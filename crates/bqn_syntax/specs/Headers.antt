@@ -8,12 +8,12 @@ use Rattle.bqn_syntax.specs.declared.token.Kind.TheVariants as kind
 use Rattle.bqn_syntax.specs.declared.token.Token.{Token}
 use Rattle.bqn_syntax.specs.declared.sort.Bracket.TheVariants.{Angle}
 use Rattle.bqn_syntax.specs.declared.sort.Sort.{Sort}
-use Rattle.bqn_syntax.specs.declared.sort.Sort.TheVariants.{Opens, Closes, Separates, Draws, Joins, Selects, Ends, Heads, Asks, Skips, Stands}
+use Rattle.bqn_syntax.specs.declared.sort.Sort.TheVariants.{Opens, Closes, Separates, Joins, Skips, Stands}
 use Rattle.bqn_syntax.specs.declared.sort.Tag.{Tag}
-use Rattle.bqn_syntax.specs.declared.sort.Tag.TheVariants.{Subject, Function, Mod1, Mod2, Nothing}
+use Rattle.bqn_syntax.specs.declared.sort.Tag.TheVariants.{Function, Mod1, Mod2, Nothing}
 use Rattle.bqn_syntax.specs.Sorts.{sort_of, role_tag, token_named}
-use Rattle.bqn_syntax.specs.Items.{Element, OfPart, OfList, Item, Standing, Joining, element_pattern, group_pattern, groups, piece_pattern}
-use Rattle.bqn_syntax.specs.Plain.{Pattern, Name, Skip, Literal, ListPattern, StrandPattern, patterns, Header, Leaf, Nothing as Absent}
+use Rattle.bqn_syntax.specs.Items.{Element, OfPart, OfList, Item, Standing, Joining, group_pattern, groups, piece_pattern}
+use Rattle.bqn_syntax.specs.Plain.{Pattern, Name, ListPattern, patterns, Header, Leaf, Nothing as Absent}
 
 -- a list of patterns that is open: its pieces so far, and the items of the piece that is being read
 pub record OpenList : Type 0 where

@@ -1,15 +1,14 @@
 -- The items of a piece, each bracket group standing as one, and the strands and fields that they join to:
 -- BQN's page on grammar.
-use Rattle.std.specs.Prelude.{ℕ, Bool, true, false, List, [], ◌∷◌, ◌++◌, Option, Some, None}
+use Rattle.std.specs.Prelude.{Bool, true, false, List, [], ◌∷◌, ◌++◌, Option, Some, None}
 use Rattle.std.specs.Option.{option_map, option_and_then}
 use Rattle.bqn_syntax.specs.declared.token.Kind.{Kind}
 use Rattle.bqn_syntax.specs.declared.token.Kind.TheVariants as kind
 use Rattle.bqn_syntax.specs.declared.token.Token.{Token}
 use Rattle.bqn_syntax.specs.declared.tree.Arrow.{Arrow}
-use Rattle.bqn_syntax.specs.declared.sort.Tag.{Tag}
 use Rattle.bqn_syntax.specs.declared.sort.Tag.TheVariants.{Subject}
 use Rattle.bqn_syntax.specs.Sorts.{tag, same_tag, is_word}
-use Rattle.bqn_syntax.specs.Plain.{Pattern, Name, Skip, Literal, ListPattern, StrandPattern, patterns, Part, Leaf, Elements, Field, Strand, Nothing, parts}
+use Rattle.bqn_syntax.specs.Plain.{Pattern, Name, Skip, Literal, StrandPattern, patterns, Part, Leaf, Elements, Field, Strand, Nothing, parts}
 
 -- a part, or a list that is a pattern
 pub data Element : Type 0 where

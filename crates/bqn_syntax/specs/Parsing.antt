@@ -1,6 +1,6 @@
 -- The tree of a token list, or its one refusal: one walk from the left, in which each piece is judged at the token that ends
 -- it, so that what stands inside brackets is decided before what they stand in. BQN's page on grammar.
-use Rattle.std.specs.Prelude.{ℕ, ◌-◌, nat_lt, Bool, true, false, if◌then◌else◌, List, [], ◌∷◌, ◌++◌, take, length, Option, Some, None, Result, Ok, Err}
+use Rattle.std.specs.Prelude.{◌-◌, nat_lt, Bool, true, false, if◌then◌else◌, List, [], ◌∷◌, ◌++◌, take, length, Option, Some, None, Result, Ok, Err}
 use Rattle.bqn_base.specs.declared.place.Place.{Place}
 use Rattle.bqn_base.specs.declared.refusal.Refusal.{Refusal}
 use Rattle.bqn_base.specs.declared.refusal.Refusal.TheVariants as refusal
@@ -19,7 +19,7 @@ use Rattle.bqn_syntax.specs.Items.{Element, OfPart, OfList, Item, Standing, Draw
 use Rattle.bqn_syntax.specs.Expressions.{piece_expression, piece_statement, piece_predicate}
 use Rattle.bqn_syntax.specs.Headers.{header_in}
 use Rattle.bqn_syntax.specs.Classes.{marks_in, class_of}
-use Rattle.bqn_syntax.specs.Plain.{Pattern, ListPattern, patterns, Header, Expr, Part, Leaf, Elements, Merge, Paren, Block, Nothing, Stmt, block, BodyTree, body, Exprs, exprs, Stmts, stmts, Bodies, bodies}
+use Rattle.bqn_syntax.specs.Plain.{Pattern, ListPattern, patterns, Header, Expr, Leaf, Elements, Merge, Paren, Block, Nothing, Stmt, block, BodyTree, body, exprs, Stmts, stmts, Bodies, bodies}
 
 -- A level is what is open: what its pieces stand in, where it opened, the tokens from the first one of the piece that is being
 -- read, the items of that piece, and what has been read: expressions, patterns, or the bodies of a block and of its last body

@@ -1,9 +1,8 @@
 ghost use Rattle.std.specs.Prelude.{◌≡◌};
 ghost use Rattle.bqn_syntax.specs.Sorts.{role_tag};
 
-use bqn_base::Role;
-
 use crate::tree::Arrow;
+use bqn_base::Role;
 
 /// The kind of a bracket.
 #[derive(Clone, Copy, Debug, PartialEq, Eq)]

@@ -1,11 +1,10 @@
 ghost use Rattle.std.specs.Prelude.{◌≡◌, IfOk};
 ghost use Rattle.bqn_syntax.specs.Sorts.{sort_of, kind_tag};
 
-use bqn_base::{Memory, Name, Place, Role, Text};
-use std::alloc::Global;
-
 use crate::sort::{Bracket, Sort, Tag};
 use crate::tree::Arrow;
+use bqn_base::{Memory, Name, Place, Role, Text};
+use std::alloc::Global;
 
 /// A name that belongs to the block whose text it stands in.
 #[derive(Clone, Copy, Debug, PartialEq, Eq)]

@@ -5,4 +5,5 @@ pub mod Singles
 pub mod Names
 pub mod Quotes
 pub mod Meanings
+pub mod Few
 pub mod Pieces

@@ -15,6 +15,7 @@ use Rattle.bqn_syntax.proofs.Longest.{longest-first}
 use Rattle.bqn_token.specs.declared.error.TokenError.{TokenError}
 use Rattle.bqn_token.specs.declared.error.TokenError.TheVariants.{Refused, Memory}
 use Rattle.bqn_token.specs.Tokenizing.{Gives, Tokenizes, placed}
+use Rattle.bqn_token.proofs.Few.{tokens-few}
 
 -- tokens in front of those that follow, or the refusal of what follows
 abbrev pub onto : List Token → Result (List Token) Refusal → Result (List Token) Refusal
@@ -157,4 +158,4 @@ tokens-err bytes r e = ap (λ (r : Result (List ℕ) Refusal). elim r as (λ _. 
 
 pub ruleset cut_laws = (onto-nil, longest-some, longest-inside, longest-piece, tokens-nothing, tokens-token, tokens-stuck, tokens-end, some_left, line-behind, column-behind)
 
-pub ruleset source_laws = (tokens-ok, tokens-err)
+pub ruleset source_laws = (tokens-ok, tokens-err, tokens-few)

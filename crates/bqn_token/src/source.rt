@@ -1,3 +1,4 @@
+ghost use Rattle.std.specs.Prelude.{◌≤◌, ◌^◌, IfOk, length};
 ghost use Rattle.bqn_syntax.specs.Tokens.{tokens_of_source};
 ghost use Rattle.bqn_token.specs.Tokenizing.{Tokenizes};
 
@@ -14,7 +15,8 @@ use std::alloc::Global;
 /// The refusal of a source that is too long or no UTF-8, or of its leftmost bad token; want of memory.
 #[tactic(auto, using(crate::proofs::Pieces::source_laws))]
 pub fn tokens(alloc: Global, bytes: &[u8]) -> Result<Vec<Token>, TokenError>
-    ensures { Tokenizes (tokens_of_source bytes.now) result }
+    ensures exact { Tokenizes (tokens_of_source bytes.now) result }
+    ensures few { IfOk result (λ tokens. length tokens.items ≤ 2 ^ 20) }
 {
     let text = text(alloc, bytes)?;
     tokens_in(alloc, text.as_slice())

@@ -1,7 +1,0 @@
--- The code of a source misses no operand.
-use Rattle.bqn_syntax.specs.Form.{tree_of}
-use Rattle.bqn_cli.proofs.Ended.{compiles-some}
-use Rattle.bqn_cli.proofs.script.run_tokens.Goals as goal
-
-pub run-requires : goal.run-requires
-run-requires g c = rw c.deref.ensures.value (compiles-some (tree_of c.args.tokens.now) c.in-Ok.code 1000000 c.in-Ok.ensures.meaning)
