@@ -4,6 +4,8 @@
 mod error;
 mod expression;
 mod item;
+mod looks;
+mod marks;
 mod parsing;
 mod pattern;
 mod pieces;
