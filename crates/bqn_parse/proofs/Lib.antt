@@ -1,2 +1,6 @@
+pub mod Briefs
+pub mod Closing
 pub mod Looking
 pub mod Marking
+pub mod Stepping
+pub mod Walking

@@ -1,6 +1,7 @@
-ghost use Rattle.std.specs.Prelude.{◌≡◌, map, reverse, IfOk};
+ghost use Rattle.std.specs.Prelude.{◌≡◌, map, reverse, Ok};
 ghost use Rattle.bqn_syntax.specs.Looks.{first_of, look, rest_of};
 ghost use Rattle.bqn_parse.specs.Looking.{ahead_shown, aheads_of, looks_shown};
+ghost use Rattle.bqn_parse.specs.Walking.{Made, Moves};
 
 use crate::error::ParseError;
 use bqn_syntax::{Sort, Token};
@@ -55,7 +56,7 @@ fn innermost(looks: &Looks) -> Ahead
 /// One more token, in front of the others.
 #[tactic(auto, using(crate::proofs::Looking::look_laws))]
 fn look(looks: &mut Looks, sort: Sort) -> Result<(), ParseError>
-    ensures { IfOk result (λ done. looks_shown looks.new ≡ look sort (looks_shown looks.old)) }
+    ensures { Moves (Ok (look sort (looks_shown looks.old))) (looks_shown looks.new) result }
 {
     let here = looks.here;
     match sort {
@@ -114,7 +115,7 @@ fn look(looks: &mut Looks, sort: Sort) -> Result<(), ParseError>
 /// For each token what stands behind the bracket that closes the one that opens there.
 #[tactic(auto, using(crate::proofs::Looking::aheads_laws))]
 pub fn aheads(alloc: Global, tokens: &[Token]) -> Result<Vec<Ahead>, ParseError>
-    ensures { IfOk result (λ all. map ahead_shown all.items ≡ aheads_of tokens.now) }
+    ensures { Made (Ok (aheads_of tokens.now)) (λ all. map ahead_shown all.items) result }
 {
     let mut looks = Looks {
         here: NOTHING,
