@@ -70,6 +70,7 @@ statement-brief m = at m.statements
     by : (b : Bool) → nat_le 1 (if b then 1 else 0) ≡ b
     by true = refl
     by false = refl
+
     at : (n : ℕ) → nat_le 1 (at_most_one n) ≡ nat_le 1 n
     at n = by (nat_le 1 n)
 
@@ -121,7 +122,7 @@ pub class-brief : (ms : List classes.Marks) → classes.class_of (map brief ms) 
 class-brief ms =
     from-brief (λ c. classes.class_if c (map brief ms)) ms
     ∙ from-same (list_any classes.has_two ms) (list_any classes.has_one_self ms) (list_any classes.has_one ms) (list_any classes.has_function ms) (list_any classes.is_deferred ms) (list_any (λ m. m.seen.args || classes.has_function m) ms)
-      (λ c. classes.class_if c (map brief ms)) (λ c. classes.class_if c ms) (λ c. if-brief c ms)
+    (λ c. classes.class_if c (map brief ms)) (λ c. classes.class_if c ms) (λ c. if-brief c ms)
 
 -- The marks of bodies, one after another.
 
@@ -139,13 +140,13 @@ pub marked-step : (index : ℕ) (ms : List BodyMarks) (m : BodyMarks) (all : Lis
     → marks_shown m ≡ brief (classes.marks_of (body_of b)) → Marked (index + 1) (ms ++ m ∷ []) all
 marked-step index ms m all b marked inside is e = record {
   same =
-    ap (λ (n : ℕ). map marks_shown (ms ++ m ∷ []) ++ rest (drop n all)) (add-one index)
-    ∙ ap (λ (xs : List classes.Marks). xs ++ rest (drop (suc index) all)) (map-append marks_shown ms (m ∷ []))
-    ∙ append_assoc (map marks_shown ms) (marks_shown m ∷ []) (rest (drop (suc index) all))
-    ∙ ap (λ (x : classes.Marks). map marks_shown ms ++ x ∷ rest (drop (suc index) all)) e
-    ∙ ap (λ (x : CodeBody). map marks_shown ms ++ rest (x ∷ drop (suc index) all)) is
-    ∙ ap (λ (xs : List CodeBody). map marks_shown ms ++ rest xs) (sym (drop-cons all index b inside))
-    ∙ marked.same;
+      ap (λ (n : ℕ). map marks_shown (ms ++ m ∷ []) ++ rest (drop n all)) (add-one index)
+      ∙ ap (λ (xs : List classes.Marks). xs ++ rest (drop (suc index) all)) (map-append marks_shown ms (m ∷ []))
+      ∙ append_assoc (map marks_shown ms) (marks_shown m ∷ []) (rest (drop (suc index) all))
+      ∙ ap (λ (x : classes.Marks). map marks_shown ms ++ x ∷ rest (drop (suc index) all)) e
+      ∙ ap (λ (x : CodeBody). map marks_shown ms ++ rest (x ∷ drop (suc index) all)) is
+      ∙ ap (λ (xs : List CodeBody). map marks_shown ms ++ rest xs) (sym (drop-cons all index b inside))
+      ∙ marked.same;
 }
 
 pub marked-end : (index : ℕ) (ms : List BodyMarks) (all : List CodeBody) → Marked index ms all → length all ≤ index → map marks_shown ms ≡ map brief (classes.marks_in (bodies (map body_of all)))
@@ -159,4 +160,3 @@ pub ruleset all_marks_laws = (marked-start, marked-step, marked-end)
 -- the class that the marks tell
 pub class-told : (ms : List BodyMarks) (all : List classes.Marks) (c : Option Class) → map marks_shown ms ≡ map brief all → c ≡ classes.class_of (map marks_shown ms) → classes.class_of all ≡ c
 class-told ms all c e is = sym (class-brief all) ∙ ap classes.class_of (sym e) ∙ sym is
-

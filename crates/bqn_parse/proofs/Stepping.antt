@@ -87,4 +87,7 @@ pub headed-some : (items : List Item) (tokens : List Token) (place : Place) (l :
 headed-some [] tokens place l some = absurd (omega arith)
 headed-some (x ∷ xs) tokens place l some = refl
 
-pub ruleset head_laws = (headed-some)
+pub headed-first : (items : List Item) (tokens : List Token) (place : Place) (l : parsing.Level) → 0 < length items → parsing.is_first_piece l.header l.statements ≡ true → parsing.headed_by items tokens place l ≡ parsing.headed true tokens place l
+headed-first items tokens place l some e = headed-some items tokens place l some ∙ ap (λ (b : Bool). parsing.headed b tokens place l) e
+
+pub ruleset head_laws = (headed-some, headed-first)

@@ -1,8 +1,9 @@
 -- What the levels of a walk show, and what a step of it gives.
-use Rattle.std.specs.Prelude.{◌≡◌, ℕ, List, drop, map, reverse, Option, Some, None, Result, Ok, Err}
+use Rattle.std.specs.Prelude.{◌≡◌, ℕ, List, [], drop, map, reverse, Option, Some, None, Result, Ok, Err}
 use Rattle.std.specs.Option.{option_map}
 use Rattle.bqn_base.specs.declared.refusal.Refusal.{Refusal}
 use Rattle.bqn_syntax.specs.declared.token.Token.{Token}
+use Rattle.bqn_syntax.specs.declared.sort.Inside.TheVariants as inside
 use Rattle.bqn_syntax.specs.Parsing as parsing
 use Rattle.bqn_syntax.specs.Plain.{expr_of, stmt_of, pattern_of, header_of, body_of}
 use Rattle.bqn_parse.specs.declared.error.ParseError.{ParseError}
@@ -31,6 +32,10 @@ level_shown tokens l = record {
 
 abbrev pub walk_shown : List Token → Walk → parsing.Levels
 walk_shown tokens w = parsing.levels (level_shown tokens w.level) (map (level_shown tokens) (reverse w.outer.items))
+
+-- a walk that has read nothing
+abbrev pub start : parsing.Levels
+start = parsing.levels (parsing.fresh inside.Program parsing.nowhere) []
 
 -- what is shown now is this answer, or its refusal is given; want of memory says nothing
 abbrev pub Moves : {A X : Type 0} → Result A Refusal → A → Result X ParseError → Type 0

@@ -37,7 +37,12 @@ pub fn formless(tokens: &[Token], place: Place, level: &Level) -> ParseError
 }
 
 /// The piece that is being read is a statement.
-fn judge_statement(alloc: Global, tokens: &[Token], place: Place, level: &mut Level) -> Result<(), ParseError>
+fn judge_statement(
+    alloc: Global,
+    tokens: &[Token],
+    place: Place,
+    level: &mut Level,
+) -> Result<(), ParseError>
     ensures { Moves (parsing.well place parsing.and_statement (expressions.piece_statement (level_shown tokens.now level.old).items) (level_shown tokens.now level.old)) (level_shown tokens.now level.new) result }
 {
     let items = mem::replace(&mut level.items, Vec::new(alloc));
@@ -48,7 +53,12 @@ fn judge_statement(alloc: Global, tokens: &[Token], place: Place, level: &mut Le
 }
 
 /// The piece that is being read is a predicate.
-fn judge_predicate(alloc: Global, tokens: &[Token], place: Place, level: &mut Level) -> Result<(), ParseError>
+fn judge_predicate(
+    alloc: Global,
+    tokens: &[Token],
+    place: Place,
+    level: &mut Level,
+) -> Result<(), ParseError>
     ensures { Moves (parsing.well place parsing.and_statement (expressions.piece_predicate (level_shown tokens.now level.old).items) (level_shown tokens.now level.old)) (level_shown tokens.now level.new) result }
 {
     let items = mem::replace(&mut level.items, Vec::new(alloc));
@@ -59,7 +69,12 @@ fn judge_predicate(alloc: Global, tokens: &[Token], place: Place, level: &mut Le
 }
 
 /// The piece that is being read is an expression.
-fn judge_expression(alloc: Global, tokens: &[Token], place: Place, level: &mut Level) -> Result<(), ParseError>
+fn judge_expression(
+    alloc: Global,
+    tokens: &[Token],
+    place: Place,
+    level: &mut Level,
+) -> Result<(), ParseError>
     ensures { Moves (parsing.well place parsing.and_expression (expressions.piece_expression (level_shown tokens.now level.old).items) (level_shown tokens.now level.old)) (level_shown tokens.now level.new) result }
 {
     let items = mem::replace(&mut level.items, Vec::new(alloc));
@@ -70,7 +85,13 @@ fn judge_expression(alloc: Global, tokens: &[Token], place: Place, level: &mut L
 }
 
 /// The piece that is being read is a pattern, whose leaves may be literals where they are allowed.
-fn judge_target(alloc: Global, tokens: &[Token], place: Place, level: &mut Level, literals: bool) -> Result<(), ParseError>
+fn judge_target(
+    alloc: Global,
+    tokens: &[Token],
+    place: Place,
+    level: &mut Level,
+    literals: bool,
+) -> Result<(), ParseError>
     ensures { Moves (parsing.well place parsing.and_target (items.piece_pattern literals (level_shown tokens.now level.old).items) (level_shown tokens.now level.old)) (level_shown tokens.now level.new) result }
 {
     let items = mem::replace(&mut level.items, Vec::new(alloc));
@@ -86,7 +107,9 @@ fn judge(alloc: Global, tokens: &[Token], place: Place, level: &mut Level) -> Re
 {
     match level.inside {
         Inside::Program | Inside::Block => judge_statement(alloc, tokens, place, level),
-        Inside::Parens | Inside::List | Inside::Merge => judge_expression(alloc, tokens, place, level),
+        Inside::Parens | Inside::List | Inside::Merge => judge_expression(
+            alloc, tokens, place, level,
+        ),
         Inside::Pattern => judge_target(alloc, tokens, place, level, false),
         Inside::HeaderPattern => judge_target(alloc, tokens, place, level, true),
     }
@@ -95,7 +118,12 @@ fn judge(alloc: Global, tokens: &[Token], place: Place, level: &mut Level) -> Re
 /// The piece that is being read ends at the token at this place. An empty one is none, but
 /// parentheses hold one.
 #[tactic(auto, using(crate::proofs::Walking::end_laws))]
-pub fn end(alloc: Global, tokens: &[Token], place: Place, level: &mut Level) -> Result<(), ParseError>
+pub fn end(
+    alloc: Global,
+    tokens: &[Token],
+    place: Place,
+    level: &mut Level,
+) -> Result<(), ParseError>
     ensures { Moves (parsing.ended place (level_shown tokens.now level.old)) (level_shown tokens.now level.new) result }
 {
     if !level.items.is_empty() {
@@ -109,7 +137,12 @@ pub fn end(alloc: Global, tokens: &[Token], place: Place, level: &mut Level) -> 
 
 /// The piece that is being read ends at a `?`.
 #[tactic(auto, using(crate::proofs::Walking::end_laws))]
-pub fn ask(alloc: Global, tokens: &[Token], place: Place, level: &mut Level) -> Result<(), ParseError>
+pub fn ask(
+    alloc: Global,
+    tokens: &[Token],
+    place: Place,
+    level: &mut Level,
+) -> Result<(), ParseError>
     ensures { Moves (parsing.asked (level_shown tokens.now level.old).items place (level_shown tokens.now level.old)) (level_shown tokens.now level.new) result }
 {
     if level.items.is_empty() {
