@@ -43,3 +43,10 @@ mod Strands
 mod Readers
 mod Groups
 pub mod Only
+pub mod Briefs
+pub mod Closing
+pub mod Looking
+pub mod Marking
+pub mod Parsed
+pub mod Stepping
+pub mod Walking

@@ -1,13 +1,20 @@
 //! The tree of a token list.
 #![tactic(auto)]
 
+mod blocks;
+mod close;
 mod error;
 mod expression;
 mod item;
+mod judge;
 mod laws;
+mod level;
+mod looks;
+mod marks;
 mod parsing;
 mod pattern;
 mod pieces;
+mod step;
 mod strand;
 mod tags;
 mod term;

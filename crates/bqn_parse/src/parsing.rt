@@ -1,17 +1,79 @@
-ghost use Rattle.std.specs.Prelude.{◌≤◌, ◌^◌, length};
-ghost use Rattle.bqn_syntax.specs.Parsing.{parsed};
+ghost use Rattle.std.specs.Prelude.{◌≡◌, ◌≤◌, ◌<◌, ◌^◌, length, map, slice_index_or};
+ghost use Rattle.bqn_syntax.specs.Parsing.{ended, nowhere, parsed, program_of, walk};
+ghost use Rattle.bqn_parse.specs.Looking.{ahead_shown, aheads_of};
 ghost use Rattle.bqn_parse.specs.Views.{Gives};
+ghost use Rattle.bqn_parse.specs.Walking.{start, walk_shown};
 
 use crate::error::ParseError;
-use bqn_syntax::{Token, Tree};
+use crate::judge::end;
+use crate::level::{Level, Walk};
+use crate::looks::{Ahead, aheads};
+use crate::step::step;
+use bqn_base::{Place, Refusal, Row};
+use bqn_roles::{NestError, nest};
+use bqn_syntax::{Inside, Token, Tree};
 use std::alloc::Global;
+use std::mem;
+
+/// The place of what no token opens.
+const NOWHERE: Place = Place { line: 0, column: 0 };
+
+/// The tree, where every token has been read.
+#[tactic(auto, using(crate::proofs::Parsed::finish_laws))]
+fn finish(alloc: Global, tokens: &[Token], walk: &mut Walk) -> Result<Tree, ParseError>
+    ensures { Gives (program_of (walk_shown tokens.now walk.old).outer (ended nowhere (walk_shown tokens.now walk.old).level)) result }
+{
+    end(alloc, tokens, NOWHERE, &mut walk.level)?;
+    if !walk.outer.is_empty() {
+        return Err(ParseError::Refused(Refusal::Bracket(walk.level.opened)));
+    }
+    let statements = mem::replace(&mut walk.level.statements, Vec::new(alloc));
+    Ok(Tree {
+        statements: Row::new(statements),
+    })
+}
+
+fn ahead_at(behind: &[Ahead], index: usize) -> Ahead
+    requires { index < length behind.now }
+    ensures { result ≡ slice_index_or behind.now index result }
+{
+    behind[index]
+}
+
+/// The walk over the tokens, behind whose brackets this stands.
+#[tactic(auto, using(crate::proofs::Parsed::walk_laws))]
+fn walk(alloc: Global, tokens: &[Token], behind: &[Ahead]) -> Result<Tree, ParseError>
+    requires few { length tokens.now ≤ 2 ^ 28 }
+    requires known { map ahead_shown behind.now ≡ aheads_of tokens.now }
+    ensures { Gives (walk start tokens.now) result }
+{
+    let mut walk = Walk {
+        level: Level::new(alloc, Inside::Program, NOWHERE),
+        outer: Vec::new(alloc),
+    };
+    'tokens: for (index, token) in tokens.iter().enumerate() {
+        let ahead = ahead_at(behind, index);
+        match step(alloc, tokens, index, token, ahead, &mut walk) {
+            Ok(()) => {}
+            Err(error) => return Err(error),
+        }
+    }
+    finish(alloc, tokens, &mut walk)
+}
 
 /// The tree of a token list, or its one refusal: Bracket or TooNested, and else that of the piece
 /// or block which is decided first.
+#[tactic(auto, using(crate::proofs::Parsed::parse_laws))]
 pub fn parse(alloc: Global, tokens: &[Token]) -> Result<Tree, ParseError>
     requires { length tokens.now ≤ 2 ^ 28 }
     ensures { Gives (parsed tokens.now) result }
 {
-    let _ = alloc;
-    Err(ParseError::Memory)
+    match nest(alloc, tokens) {
+        Ok(_) => {
+            let behind = aheads(alloc, tokens)?;
+            walk(alloc, tokens, &behind)
+        }
+        Err(NestError::Refused(refusal)) => Err(ParseError::Refused(refusal)),
+        Err(NestError::Memory) => Err(ParseError::Memory),
+    }
 }

@@ -1,0 +1,37 @@
+-- A level that closes.
+use Rattle.std.proofs.Common.{◌≡◌, ◌<◌, ℕ, List, [], ◌∷◌, ◌++◌, Result, Ok, Err, length, map, reverse, refl, sym, ap, ◌∙◌, arith}
+use Rattle.std.proofs.lemmas.List.{map-append, reverse-append}
+use Rattle.bqn_base.specs.declared.place.Place.{Place}
+use Rattle.bqn_base.specs.declared.refusal.Refusal.TheVariants as refusal
+use Rattle.bqn_syntax.specs.declared.tree.Expr.{Expr as CodeExpr}
+use Rattle.bqn_syntax.specs.declared.token.Token.{Token}
+use Rattle.bqn_syntax.specs.Items.{OfPart}
+use Rattle.bqn_syntax.specs.Parsing as parsing
+use Rattle.bqn_syntax.specs.Plain.{expr_of, exprs, Merge, Paren}
+use Rattle.bqn_parse.specs.declared.level.Level.{Level}
+use Rattle.bqn_parse.specs.Walking.{level_shown}
+
+pub parens-one : (place : Place) (all xs : List CodeExpr) (x : CodeExpr) → all ≡ xs ++ x ∷ [] → xs ≡ [] → parsing.parens_part place (map expr_of all) ≡ Ok (OfPart (Paren (expr_of x)))
+parens-one place all xs x e none = ap (λ (es : List CodeExpr). parsing.parens_part place (map expr_of es)) (e ∙ ap (λ (ys : List CodeExpr). ys ++ x ∷ []) none)
+
+many : (place : Place) (xs : List CodeExpr) (x : CodeExpr) → 0 < length xs → parsing.parens_part place (map expr_of (xs ++ x ∷ [])) ≡ Err (refusal.Grammar place)
+many place [] x some = absurd (omega arith)
+many place (y ∷ []) x some = refl
+many place (y ∷ z ∷ xs) x some = refl
+
+pub parens-many : (place : Place) (all xs : List CodeExpr) (x : CodeExpr) → all ≡ xs ++ x ∷ [] → 0 < length xs → parsing.parens_part place (map expr_of all) ≡ Err (refusal.Grammar place)
+parens-many place all xs x e some = ap (λ (es : List CodeExpr). parsing.parens_part place (map expr_of es)) e ∙ many place xs x some
+
+pub ruleset parens_laws = (parens-one, parens-many)
+
+pub merge-some : (place : Place) (all : List CodeExpr) → 0 < length all → parsing.merge_part place (map expr_of all) ≡ Ok (OfPart (Merge (exprs (map expr_of all))))
+merge-some place [] some = absurd (omega arith)
+merge-some place (x ∷ xs) some = refl
+
+pub ruleset merge_laws = (merge-some)
+
+-- the level around, and those around that
+pub around-shown : (tokens : List Token) (outer rest : List Level) (around : Level) → outer ≡ rest ++ around ∷ [] → map (level_shown tokens) (reverse outer) ≡ level_shown tokens around ∷ map (level_shown tokens) (reverse rest)
+around-shown tokens outer rest around e = ap (λ (ls : List Level). map (level_shown tokens) (reverse ls)) e ∙ ap (map (level_shown tokens)) (reverse-append rest (around ∷ []))
+
+pub ruleset hand_laws = (around-shown)

@@ -1,0 +1,93 @@
+-- One token of a walk.
+use Rattle.std.proofs.Common.{◌≡◌, ◌<◌, ◌≤◌, ◌+◌, ◌-◌, ℕ, suc, zero, Bool, true, false, List, [], ◌∷◌, ◌++◌, Option, Some, None, Result, Ok, Err, length, drop, take, get_or, drop-cons, add-one, map, reverse, refl, sym, ap, ◌∙◌, arith, length-drop}
+use Rattle.std.proofs.lemmas.List.{map-append, reverse-append, length-reverse}
+use Rattle.bqn_base.specs.declared.place.Place.{Place}
+use Rattle.bqn_base.specs.declared.refusal.Refusal.{Refusal}
+use Rattle.bqn_base.specs.declared.refusal.Refusal.TheVariants as refusal
+use Rattle.bqn_syntax.specs.declared.token.Token.{Token}
+use Rattle.bqn_syntax.specs.declared.sort.Inside.{Inside}
+use Rattle.bqn_syntax.specs.declared.sort.Inside.TheVariants as inside
+use Rattle.bqn_syntax.specs.Items.{Item, Wrong}
+use Rattle.bqn_syntax.specs.Parsing as parsing
+use Rattle.bqn_parse.specs.declared.error.ParseError.{ParseError}
+use Rattle.bqn_parse.specs.declared.error.ParseError.TheVariants.{Refused, Memory}
+use Rattle.bqn_parse.specs.declared.level.Level.{Level}
+use Rattle.bqn_parse.specs.Walking.{from_first, level_shown, Moves}
+
+-- what the innermost level answers, the walk does
+pub goes-on : {X : Type 0} (outer : List parsing.Level) (answer : Result parsing.Level Refusal) (new : parsing.Level) (result : Result X ParseError) → Moves answer new result → Moves (parsing.go_on outer answer) (parsing.levels new outer) result
+goes-on outer answer new (Ok done) moves = ap (parsing.go_on outer) moves
+goes-on outer answer new (Err (Refused r)) moves = ap (parsing.go_on outer) moves
+goes-on outer answer new (Err Memory) moves = tt
+
+length-each : {A B : Type 0} (f : A → B) (xs : List A) → length (map f xs) ≡ length xs
+length-each f [] = refl
+length-each f (x ∷ xs) = ap (λ (n : ℕ). suc n) (length-each f xs)
+
+pub length-outer : (tokens : List Token) (outer : List Level) → length (map (level_shown tokens) (reverse outer)) ≡ length outer
+length-outer tokens outer = length-each (level_shown tokens) (reverse outer) ∙ length-reverse outer
+
+pub pushed-shown : (tokens : List Token) (outer : List Level) (around : Level) → map (level_shown tokens) (reverse (outer ++ around ∷ [])) ≡ level_shown tokens around ∷ map (level_shown tokens) (reverse outer)
+pushed-shown tokens outer around = ap (map (level_shown tokens)) (reverse-append outer (around ∷ []))
+
+pub ruleset open_laws = (length-outer, pushed-shown)
+
+-- Marks that fit only in some levels.
+
+pub separated-elsewhere : (i : Inside) (tokens : List Token) (place : Place) (so : parsing.Levels) → (i ≡ inside.Parens → ⊥) → parsing.separated i tokens place so ≡ parsing.go_on so.outer (parsing.ended place so.level)
+separated-elsewhere inside.Program tokens place so not = refl
+separated-elsewhere inside.Parens tokens place so not = absurd (not refl)
+separated-elsewhere inside.List tokens place so not = refl
+separated-elsewhere inside.Pattern tokens place so not = refl
+separated-elsewhere inside.HeaderPattern tokens place so not = refl
+separated-elsewhere inside.Merge tokens place so not = refl
+separated-elsewhere inside.Block tokens place so not = refl
+
+pub semicolon-elsewhere : (i : Inside) (tokens : List Token) (place : Place) (so : parsing.Levels) → (i ≡ inside.Block → ⊥) → parsing.semicolon i tokens place so ≡ parsing.taken Wrong tokens so
+semicolon-elsewhere inside.Program tokens place so not = refl
+semicolon-elsewhere inside.Parens tokens place so not = refl
+semicolon-elsewhere inside.List tokens place so not = refl
+semicolon-elsewhere inside.Pattern tokens place so not = refl
+semicolon-elsewhere inside.HeaderPattern tokens place so not = refl
+semicolon-elsewhere inside.Merge tokens place so not = refl
+semicolon-elsewhere inside.Block tokens place so not = absurd (not refl)
+
+pub question-elsewhere : (i : Inside) (tokens : List Token) (place : Place) (so : parsing.Levels) → (i ≡ inside.Block → ⊥) → parsing.question i tokens place so ≡ parsing.taken Wrong tokens so
+question-elsewhere inside.Program tokens place so not = refl
+question-elsewhere inside.Parens tokens place so not = refl
+question-elsewhere inside.List tokens place so not = refl
+question-elsewhere inside.Pattern tokens place so not = refl
+question-elsewhere inside.HeaderPattern tokens place so not = refl
+question-elsewhere inside.Merge tokens place so not = refl
+question-elsewhere inside.Block tokens place so not = absurd (not refl)
+
+pub colon-elsewhere : (i : Inside) (tokens : List Token) (place : Place) (so : parsing.Levels) → (i ≡ inside.Block → ⊥) → parsing.colon i tokens place so ≡ parsing.taken Wrong tokens so
+colon-elsewhere inside.Program tokens place so not = refl
+colon-elsewhere inside.Parens tokens place so not = refl
+colon-elsewhere inside.List tokens place so not = refl
+colon-elsewhere inside.Pattern tokens place so not = refl
+colon-elsewhere inside.HeaderPattern tokens place so not = refl
+colon-elsewhere inside.Merge tokens place so not = refl
+colon-elsewhere inside.Block tokens place so not = absurd (not refl)
+
+-- The tokens of a piece.
+
+apart : (tokens : List Token) (first index : ℕ) → index ≤ length tokens → length (drop first tokens) - length (drop index tokens) ≡ index - first
+apart tokens first index within = omega (arith, length-drop first tokens, length-drop index tokens)
+
+pub piece-some : (tokens : List Token) (first index : ℕ) → index ≤ length tokens → first ≤ index → parsing.tokens_before (Some (drop first tokens)) (drop index tokens) ≡ take (index - first) (drop first tokens)
+piece-some tokens first index within order = ap (λ (n : ℕ). take n (drop first tokens)) (apart tokens first index within)
+
+pub piece-none : (tokens : List Token) (first index : ℕ) → index ≤ length tokens → index < first → parsing.tokens_before (Some (drop first tokens)) (drop index tokens) ≡ []
+piece-none tokens first index within order = ap (λ (n : ℕ). take n (drop first tokens)) (apart tokens first index within ∙ (let z : index - first ≡ 0 = omega arith in z))
+
+pub ruleset piece_laws = (piece-some, piece-none)
+
+pub headed-some : (items : List Item) (tokens : List Token) (place : Place) (l : parsing.Level) → 0 < length items → parsing.headed_by items tokens place l ≡ parsing.headed (parsing.is_first_piece l.header l.statements) tokens place l
+headed-some [] tokens place l some = absurd (omega arith)
+headed-some (x ∷ xs) tokens place l some = refl
+
+pub headed-first : (items : List Item) (tokens : List Token) (place : Place) (l : parsing.Level) → 0 < length items → parsing.is_first_piece l.header l.statements ≡ true → parsing.headed_by items tokens place l ≡ parsing.headed true tokens place l
+headed-first items tokens place l some e = headed-some items tokens place l some ∙ ap (λ (b : Bool). parsing.headed b tokens place l) e
+
+pub ruleset head_laws = (headed-some, headed-first)

@@ -1,0 +1,15 @@
+use Rattle.std.proofs.Common.{◌≡◌, List, ◌++◌, ◌∷◌, [], ◌∙◌, map, reverse, ap, sym, rules, Ok}
+use Rattle.bqn_syntax.specs.Parsing as parsing
+use Rattle.bqn_parse.specs.Views.{element_of}
+use Rattle.bqn_parse.specs.Walking.{level_shown}
+use Rattle.bqn_parse.proofs.Closing.{around-shown}
+use Rattle.bqn_parse.proofs.close.hand.Goals as goal
+
+pub returns : goal.returns
+returns c = λ tokens.
+    let outer = c.args.walk.now.outer.items in
+    let rest = c.pop.new.self.items in
+    let around = c.in-Some.around in
+    let e : outer ≡ rest ++ around ∷ [] = search rules in
+    ap (parsing.handed c.args.place (Ok (element_of c.args.element))) (around-shown tokens outer rest around e)
+    ∙ ap (λ (l : parsing.Level). Ok (parsing.levels l (map (level_shown tokens) (reverse rest)))) (sym (c.in_ok-and_item.ensures tokens))

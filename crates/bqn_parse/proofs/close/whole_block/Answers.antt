@@ -1,0 +1,15 @@
+use Rattle.std.proofs.Common.{map, subst, Vec}
+use Rattle.bqn_syntax.specs.Classes as classes
+use Rattle.bqn_syntax.specs.Parsing as parsing
+use Rattle.bqn_syntax.specs.Plain.{body_of, bodies}
+use Rattle.bqn_syntax.specs.declared.tree.BodyTree.{BodyTree}
+use Rattle.bqn_parse.specs.Views.{element_of}
+use Rattle.bqn_parse.specs.Walking.{Made}
+use Rattle.bqn_parse.proofs.close.whole_block.Goals as goal
+
+pub returns : goal.returns
+returns c = λ tokens place.
+    subst (λ (l : parsing.Level). Made (parsing.block_part l.opened (bodies l.done) (classes.class_of (classes.marks_in (bodies l.done)))) element_of c.block.result)
+    (c.in_ok-end_body.ensures tokens)
+    (subst (λ (v : Vec BodyTree _). Made (parsing.block_part c.end_body.new.self.opened (bodies (map body_of v.items)) (classes.class_of (classes.marks_in (bodies (map body_of v.items))))) element_of c.block.result)
+    c.replace-done.ensures.value c.block.ensures)

@@ -1,0 +1,58 @@
+use Rattle.std.proofs.Common.{◌∙◌, ap, drop, sym, subst}
+use Rattle.bqn_syntax.specs.declared.sort.Inside.{Inside}
+use Rattle.bqn_syntax.specs.declared.sort.Sort.{Sort}
+use Rattle.bqn_syntax.specs.Items.{Standing, OfPart}
+use Rattle.bqn_syntax.specs.Levels.{part-Leaf, part-Nothing}
+use Rattle.bqn_syntax.specs.Parsing as parsing
+use Rattle.bqn_syntax.specs.Plain.{Part, Leaf}
+use Rattle.bqn_parse.specs.Looking.{ahead_shown}
+use Rattle.bqn_parse.specs.Walking.{walk_shown, Moves}
+use Rattle.bqn_parse.proofs.step.step.Goals as goal
+
+pub returns-in-Opens : goal.returns-in-Opens
+returns-in-Opens c =
+    let tokens = c.args.tokens.now in
+    let so = walk_shown tokens c.args.walk.now in
+    let new = walk_shown tokens c.enter.new.walk in
+    subst (λ (s : Sort). Moves (parsing.step s (ahead_shown c.args.ahead) c.args.token.now (drop c.args.index tokens) so) new c.enter.result) c.in-Opens.ensures
+    (subst (λ (i : Inside). Moves (parsing.opened i (drop c.args.index tokens) c.args.token.now.place so) new c.enter.result) (c.inside_of-inside.ensures tokens) (c.enter.ensures tokens))
+
+pub returns-in-Draws : goal.returns-in-Draws
+returns-in-Draws c =
+    let tokens = c.args.tokens.now in
+    let so = walk_shown tokens c.args.walk.now in
+    let new = walk_shown tokens c.take.new.walk in
+    subst (λ (s : Sort). Moves (parsing.step s (ahead_shown c.args.ahead) c.args.token.now (drop c.args.index tokens) so) new c.take.result) c.in-Draws.ensures
+    (c.take.ensures tokens)
+
+pub returns-in-Joins : goal.returns-in-Joins
+returns-in-Joins c =
+    let tokens = c.args.tokens.now in
+    let so = walk_shown tokens c.args.walk.now in
+    let new = walk_shown tokens c.take-in-Joins.new.walk in
+    subst (λ (s : Sort). Moves (parsing.step s (ahead_shown c.args.ahead) c.args.token.now (drop c.args.index tokens) so) new c.take-in-Joins.result) c.in-Joins.ensures
+    (c.take-in-Joins.ensures tokens)
+
+pub returns-in-Selects : goal.returns-in-Selects
+returns-in-Selects c =
+    let tokens = c.args.tokens.now in
+    let so = walk_shown tokens c.args.walk.now in
+    let new = walk_shown tokens c.take-in-Selects.new.walk in
+    subst (λ (s : Sort). Moves (parsing.step s (ahead_shown c.args.ahead) c.args.token.now (drop c.args.index tokens) so) new c.take-in-Selects.result) c.in-Selects.ensures
+    (c.take-in-Selects.ensures tokens)
+
+pub returns-in-Skips : goal.returns-in-Skips
+returns-in-Skips c =
+    let tokens = c.args.tokens.now in
+    let so = walk_shown tokens c.args.walk.now in
+    let new = walk_shown tokens c.take-in-Skips.new.walk in
+    subst (λ (s : Sort). Moves (parsing.step s (ahead_shown c.args.ahead) c.args.token.now (drop c.args.index tokens) so) new c.take-in-Skips.result) c.in-Skips.ensures
+    (subst (λ (x : Part). Moves (parsing.taken (Standing (OfPart x)) (drop c.args.index tokens) so) new c.take-in-Skips.result) (part-Nothing c.args.token.now.place) (c.take-in-Skips.ensures tokens))
+
+pub returns-in_ok-copy-in-Stands : goal.returns-in_ok-copy-in-Stands
+returns-in_ok-copy-in-Stands c =
+    let tokens = c.args.tokens.now in
+    let so = walk_shown tokens c.args.walk.now in
+    let new = walk_shown tokens c.take-in-Stands.new.walk in
+    subst (λ (s : Sort). Moves (parsing.step s (ahead_shown c.args.ahead) c.args.token.now (drop c.args.index tokens) so) new c.take-in-Stands.result) c.in-Stands.ensures
+    (subst (λ (x : Part). Moves (parsing.taken (Standing (OfPart x)) (drop c.args.index tokens) so) new c.take-in-Stands.result) (part-Leaf c.in_ok-copy-in-Stands.field-0 ∙ ap Leaf c.in_ok-copy-in-Stands.ensures) (c.take-in-Stands.ensures tokens))

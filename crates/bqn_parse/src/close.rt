@@ -1,0 +1,138 @@
+ghost use Rattle.std.specs.Prelude.{◌≡◌, List, map, reverse, Ok};
+ghost use Rattle.bqn_syntax.specs.declared.token.Token.{Token};
+ghost use Rattle.bqn_base.specs.declared.place.Place.{Place};
+ghost use Rattle.bqn_syntax.specs.declared.sort.Inside.TheVariants as inside;
+ghost use Rattle.bqn_syntax.specs.Parsing as parsing;
+ghost use Rattle.bqn_syntax.specs.Plain.{expr_of};
+ghost use Rattle.bqn_parse.specs.Views.{element_of};
+ghost use Rattle.bqn_parse.specs.Walking.{level_shown, walk_shown, Made, Moves};
+
+use crate::blocks::block;
+use crate::error::ParseError;
+use crate::item::{Element, Item};
+use crate::judge::end;
+use crate::level::{Level, Walk};
+use bqn_base::{Place, Refusal, Row};
+use bqn_syntax::{Bracket, Expr, Inside, Part, Pattern, Token};
+use sqlite_items::Boxed;
+use std::alloc::Global;
+use std::mem;
+
+/// Whether such a bracket closes what pieces stand in.
+fn closes(bracket: Bracket, inside: Inside) -> bool
+    ensures { result ≡ parsing.closes bracket inside }
+{
+    match bracket {
+        Bracket::Round => matches!(inside, Inside::Parens),
+        Bracket::Square => matches!(inside, Inside::Merge),
+        Bracket::Curly => matches!(inside, Inside::Block),
+        Bracket::Angle => matches!(
+            inside,
+            Inside::List | Inside::Pattern | Inside::HeaderPattern
+        ),
+    }
+}
+
+/// Parentheses that hold these pieces.
+#[tactic(auto, using(bqn_syntax::specs::Levels::levels, crate::proofs::Closing::parens_laws))]
+fn parens(alloc: Global, place: Place, mut pieces: Vec<Expr>) -> Result<Element, ParseError>
+    ensures { Made (parsing.parens_part place (map expr_of pieces.items)) element_of result }
+{
+    let Some(piece) = pieces.pop() else {
+        return Err(ParseError::Refused(Refusal::Grammar(place)));
+    };
+    if !pieces.is_empty() {
+        return Err(ParseError::Refused(Refusal::Grammar(place)));
+    }
+    Ok(Element::Part(Part::Paren(Boxed::new(alloc, piece)?)))
+}
+
+/// The array whose cells are these pieces; it has one at least.
+#[tactic(auto, using(bqn_syntax::specs::Levels::levels, crate::proofs::Closing::merge_laws))]
+fn merge(place: Place, pieces: Vec<Expr>) -> Result<Element, ParseError>
+    ensures { Made (parsing.merge_part place (map expr_of pieces.items)) element_of result }
+{
+    if pieces.is_empty() {
+        return Err(ParseError::Refused(Refusal::Grammar(place)));
+    }
+    Ok(Element::Part(Part::Merge(Row::new(pieces))))
+}
+
+/// The block that a level is; its last body ends.
+fn whole_block(alloc: Global, level: &mut Level) -> Result<Element, ParseError>
+    ensures { (tokens : List Token) (place : Place) → Made (parsing.whole inside.Block place (level_shown tokens level.old)) element_of result }
+{
+    level.end_body(alloc)?;
+    let done = mem::replace(&mut level.done, Vec::new(alloc));
+    block(alloc, level.opened, done)
+}
+
+/// What a level is as one element, where it closes at this place.
+#[tactic(auto, using(bqn_syntax::specs::Levels::levels))]
+fn whole(alloc: Global, place: Place, level: &mut Level) -> Result<Element, ParseError>
+    ensures { (tokens : List Token) → Made (parsing.whole level.old.inside place (level_shown tokens level.old)) element_of result }
+{
+    match level.inside {
+        Inside::Parens => {
+            let pieces = mem::replace(&mut level.expressions, Vec::new(alloc));
+            parens(alloc, place, pieces)
+        }
+        Inside::List => {
+            let pieces = mem::replace(&mut level.expressions, Vec::new(alloc));
+            Ok(Element::Part(Part::List(Row::new(pieces))))
+        }
+        Inside::Merge => {
+            let pieces = mem::replace(&mut level.expressions, Vec::new(alloc));
+            merge(place, pieces)
+        }
+        Inside::Pattern | Inside::HeaderPattern => {
+            let pieces = mem::replace(&mut level.targets, Vec::new(alloc));
+            Ok(Element::List(Pattern::List(Row::new(pieces))))
+        }
+        Inside::Block => whole_block(alloc, level),
+        Inside::Program => Err(ParseError::Refused(Refusal::Bracket(place))),
+    }
+}
+
+/// The last piece of a level ends, and the level closes at the same place.
+fn close_level(
+    alloc: Global,
+    tokens: &[Token],
+    place: Place,
+    level: &mut Level,
+) -> Result<Element, ParseError>
+    ensures { Made (parsing.whole_of place (parsing.ended place (level_shown tokens.now level.old))) element_of result }
+{
+    end(alloc, tokens, place, level)?;
+    whole(alloc, place, level)
+}
+
+/// An element stands in the level around, which is now the innermost one.
+#[tactic(auto, using(crate::proofs::Closing::hand_laws))]
+fn hand(place: Place, walk: &mut Walk, element: Element) -> Result<(), ParseError>
+    ensures { (tokens : List Token) → Moves (parsing.handed place (Ok (element_of element)) (map (level_shown tokens) (reverse walk.old.outer.items))) (walk_shown tokens walk.new) result }
+{
+    let Some(around) = walk.outer.pop() else {
+        return Err(ParseError::Refused(Refusal::Bracket(place)));
+    };
+    walk.level = around;
+    walk.level.and_item(Item::Standing(element))?;
+    Ok(())
+}
+
+/// A bracket closes.
+pub fn close(
+    alloc: Global,
+    tokens: &[Token],
+    place: Place,
+    bracket: Bracket,
+    walk: &mut Walk,
+) -> Result<(), ParseError>
+    ensures { Moves (parsing.closed (parsing.closes bracket walk.old.level.inside) place (walk_shown tokens.now walk.old)) (walk_shown tokens.now walk.new) result }
+{
+    if !closes(bracket, walk.level.inside) {
+        return Err(ParseError::Refused(Refusal::Bracket(place)));
+    }
+    let element = close_level(alloc, tokens, place, &mut walk.level)?;
+    hand(place, walk, element)
+}

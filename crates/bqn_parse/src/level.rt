@@ -1,0 +1,144 @@
+ghost use Rattle.std.specs.Prelude.{◌≡◌, List, map, drop, IfOk, Ok};
+ghost use Rattle.std.specs.Option.{option_map};
+ghost use Rattle.bqn_syntax.specs.Parsing as parsing;
+ghost use Rattle.bqn_syntax.specs.Plain.{expr_of, header_of, pattern_of, stmt_of};
+ghost use Rattle.bqn_syntax.specs.declared.token.Token.{Token};
+ghost use Rattle.bqn_parse.specs.Views.{item_of};
+ghost use Rattle.bqn_parse.specs.Walking.{level_shown, Moves};
+
+use crate::error::ParseError;
+use crate::item::Item;
+use bqn_base::{Memory, Place, Row};
+use bqn_syntax::{BodyTree, Expr, Header, Inside, Pattern, Stmt};
+use std::alloc::Global;
+use std::mem;
+
+/// What is open: what its pieces stand in, the place where it opened, the index of the first token
+/// of the piece that is being read and the items of that piece, and what has been read: expressions,
+/// patterns, or the bodies of a block and of its last body the header and the statements.
+#[derive(Drop)]
+pub struct Level {
+    pub inside: Inside,
+    pub opened: Place,
+    pub first: Option<usize>,
+    pub items: Vec<Item>,
+    pub expressions: Vec<Expr>,
+    pub targets: Vec<Pattern>,
+    pub header: Option<Header>,
+    pub statements: Vec<Stmt>,
+    pub done: Vec<BodyTree>,
+}
+
+/// The innermost level, and those around it, the innermost last.
+#[derive(Drop)]
+pub struct Walk {
+    pub level: Level,
+    pub outer: Vec<Level>,
+}
+
+impl Level {
+    /// A level that opens at a place, with nothing in it.
+    pub fn new(alloc: Global, inside: Inside, opened: Place) -> Level
+        ensures { (tokens : List Token) → level_shown tokens result ≡ parsing.fresh inside opened }
+    {
+        Level {
+            inside,
+            opened,
+            first: None,
+            items: Vec::new(alloc),
+            expressions: Vec::new(alloc),
+            targets: Vec::new(alloc),
+            header: None,
+            statements: Vec::new(alloc),
+            done: Vec::new(alloc),
+        }
+    }
+
+    /// Says that a piece has begun by the token with this index.
+    pub fn begin(&mut self, index: usize)
+        ensures { (tokens : List Token) → level_shown tokens self.new ≡ parsing.begun (drop index tokens) (level_shown tokens self.old) }
+    {
+        if self.first.is_none() {
+            self.first = Some(index);
+        }
+    }
+
+    /// One more item in the piece that is being read.
+    #[tactic(auto, using(crate::proofs::Walking::append_laws))]
+    pub fn and_item(&mut self, item: Item) -> Result<(), Memory>
+        ensures { IfOk result (λ done. (tokens : List Token) → level_shown tokens self.new ≡ parsing.and_item (item_of item) (level_shown tokens self.old)) }
+    {
+        match self.items.push(item) {
+            Ok(()) => Ok(()),
+            Err(_) => Err(Memory),
+        }
+    }
+
+    /// The piece that was read is this expression, and the level waits for the next one.
+    #[tactic(auto, using(crate::proofs::Walking::append_laws))]
+    pub fn and_expression(&mut self, alloc: Global, e: Expr) -> Result<(), ParseError>
+        ensures { (tokens : List Token) → Moves (Ok (parsing.and_expression (expr_of e) (level_shown tokens self.old))) (level_shown tokens self.new) result }
+    {
+        self.expressions.push(e)?;
+        self.first = None;
+        self.items = Vec::new(alloc);
+        Ok(())
+    }
+
+    /// The piece that was read is this pattern.
+    #[tactic(auto, using(crate::proofs::Walking::append_laws))]
+    pub fn and_target(&mut self, alloc: Global, q: Pattern) -> Result<(), ParseError>
+        ensures { (tokens : List Token) → Moves (Ok (parsing.and_target (pattern_of q) (level_shown tokens self.old))) (level_shown tokens self.new) result }
+    {
+        self.targets.push(q)?;
+        self.first = None;
+        self.items = Vec::new(alloc);
+        Ok(())
+    }
+
+    /// The piece that was read is this statement.
+    #[tactic(auto, using(crate::proofs::Walking::append_laws))]
+    pub fn and_statement(&mut self, alloc: Global, s: Stmt) -> Result<(), ParseError>
+        ensures { (tokens : List Token) → Moves (Ok (parsing.and_statement (stmt_of s) (level_shown tokens self.old))) (level_shown tokens self.new) result }
+    {
+        self.statements.push(s)?;
+        self.first = None;
+        self.items = Vec::new(alloc);
+        Ok(())
+    }
+
+    /// The piece that was read is this header.
+    pub fn and_header(&mut self, alloc: Global, h: Header)
+        ensures { (tokens : List Token) → level_shown tokens self.new ≡ parsing.and_header (header_of h) (level_shown tokens self.old) }
+    {
+        self.header = Some(h);
+        self.first = None;
+        self.items = Vec::new(alloc);
+    }
+
+    /// Whether the first nonempty piece of a body is being read.
+    pub fn is_first_piece(&self) -> bool
+        ensures { result ≡ parsing.is_first_piece (option_map header_of self.now.header) (map stmt_of self.now.statements.items) }
+    {
+        self.header.is_none() && self.statements.is_empty()
+    }
+
+    /// The body that is being read ends.
+    #[tactic(auto, using(bqn_syntax::specs::Levels::levels, crate::proofs::Walking::append_laws))]
+    pub fn end_body(&mut self, alloc: Global) -> Result<(), Memory>
+        ensures { IfOk result (λ done. (tokens : List Token) → level_shown tokens self.new ≡ parsing.and_body (level_shown tokens self.old)) }
+    {
+        let header = self.header.take();
+        let statements = mem::replace(&mut self.statements, Vec::new(alloc));
+        self.first = None;
+        self.items = Vec::new(alloc);
+        let body = BodyTree {
+            header,
+            statements: Row::new(statements),
+        };
+        match self.done.push(body) {
+            Ok(()) => Ok(()),
+            Err(_) => Err(Memory),
+        }
+    }
+}
