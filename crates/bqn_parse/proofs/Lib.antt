@@ -1,1 +1,4 @@
+pub mod Backward
+pub mod Binding
 mod LastName
+pub mod Leftward

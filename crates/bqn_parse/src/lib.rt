@@ -1,12 +1,16 @@
 //! The tree of a token list.
 #![tactic(auto)]
 
+mod ends;
 mod error;
 mod expression;
 mod item;
+mod named;
 mod parsing;
 mod pattern;
 mod pieces;
+mod reading;
+mod steps;
 mod tags;
 mod term;
 mod terms;

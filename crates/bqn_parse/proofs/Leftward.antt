@@ -1,0 +1,31 @@
+-- Units that are read leftward.
+use Rattle.std.proofs.Common.{◌≡◌, ℕ, ◌+◌, ◌×◌, List, [], ◌∷◌, ◌++◌, map, length, Option, Some, None, MatchOption, refl, sym, ap, ◌∙◌, arith}
+use Rattle.std.specs.Option.{option_to_list}
+use Rattle.bqn_syntax.specs.declared.tree.Step.{Step}
+use Rattle.bqn_syntax.specs.Expressions.{more}
+use Rattle.bqn_syntax.specs.Plain.{Steps, no_steps, and_steps, step_of}
+use Rattle.bqn_parse.specs.declared.unit.Unit.{Unit}
+use Rattle.bqn_parse.specs.Leftward.{ahead, steps_shown, onto_steps, joined}
+use Rattle.bqn_parse.specs.Views.{backward}
+use Rattle.bqn_parse.proofs.Backward.{backward-snoc}
+
+onto_steps-snoc : (all : List Step) (s : Step) (others : Steps) → onto_steps (all ++ s ∷ []) others ≡ onto_steps all (and_steps (step_of s) others)
+onto_steps-snoc [] s others = refl
+onto_steps-snoc (t ∷ all) s others = ap (λ (behind : Steps). and_steps (step_of t) behind) (onto_steps-snoc all s others)
+
+pub joined-more : (all : List Step) (s : Step) (others : Option Steps) → joined (all ++ s ∷ []) others ≡ joined all (more (step_of s) others)
+joined-more all s None = refl
+joined-more all s (Some others) = ap (λ (behind : Steps). Some behind) (onto_steps-snoc all s others)
+
+pub joined-nil : (others : Option Steps) → joined [] others ≡ others
+joined-nil None = refl
+joined-nil (Some others) = refl
+
+onto_steps-end : (all : List Step) → onto_steps all no_steps ≡ steps_shown all
+onto_steps-end [] = refl
+onto_steps-end (s ∷ all) = ap (λ (behind : Steps). and_steps (step_of s) behind) (onto_steps-end all)
+
+pub joined-end : (all : List Step) → joined all (Some no_steps) ≡ Some (steps_shown all)
+joined-end all = ap (λ (behind : Steps). Some behind) (onto_steps-end all)
+
+pub ruleset step_laws = (joined-more, joined-nil, joined-end)
