@@ -1,10 +1,10 @@
 -- What units that are read leftward stand for.
-use Rattle.std.specs.Prelude.{ℕ, ◌+◌, ◌≤◌, List, [], ◌∷◌, map, length, reverse, Option, Some, None}
-use Rattle.bqn_syntax.specs.declared.tree.Derived.{Derived as CodeDerived}
+use Rattle.std.specs.Prelude.{ℕ, ◌+◌, Bool, true, false, List, [], ◌∷◌, map, length, Option, Some, None}
+use Rattle.bqn_syntax.specs.declared.tree.Arrow.TheVariants as arrow
 use Rattle.bqn_syntax.specs.declared.tree.Step.{Step as CodeStep}
 use Rattle.bqn_syntax.specs.Expressions.{more, steps_of}
-use Rattle.bqn_syntax.specs.Plain.{Steps, no_steps, and_steps, steps, Deriveds, deriveds, step_of, derived_of}
-use Rattle.bqn_syntax.specs.Units.{Unit'}
+use Rattle.bqn_syntax.specs.Plain.{Steps, no_steps, and_steps, steps, step_of}
+use Rattle.bqn_syntax.specs.Units.{Unit', Arrow'}
 use Rattle.bqn_parse.specs.declared.reading.Reading.{Reading}
 use Rattle.bqn_parse.specs.declared.steps.Next.{Next}
 use Rattle.bqn_parse.specs.declared.steps.Next.TheVariants as next
@@ -27,11 +27,6 @@ next_shown next.End = Some no_steps
 next_shown next.Wrong = None
 next_shown (next.Step s left) = more (step_of s) (steps_of (reading_shown left))
 
--- no more units are left than there were
-abbrev pub Shorter : List Unit' → Next → Type 0
-Shorter us (next.Step s left) = length (reading_shown left) ≤ length us
-Shorter us _ = Unit {0}
-
 -- so many units are left, and a step before them
 abbrev pub left_of : Next → ℕ
 left_of (next.Step s left) = length (reading_shown left) + 1
@@ -45,3 +40,11 @@ onto_steps (s ∷ all) others = and_steps (step_of s) (onto_steps all others)
 abbrev pub joined : List CodeStep → Option Steps → Option Steps
 joined all None = None
 joined all (Some others) = Some (onto_steps all others)
+
+abbrev pub is_export : Unit' → Bool
+is_export (Arrow' arrow.Export) = true
+is_export _ = false
+
+abbrev pub is_end : List Unit' → Bool
+is_end [] = true
+is_end (u ∷ us) = false

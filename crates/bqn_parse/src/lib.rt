@@ -12,8 +12,10 @@ mod pieces;
 mod reading;
 mod steps;
 mod tags;
+mod targets;
 mod term;
 mod terms;
+mod train;
 mod unit;
 mod units;
 

@@ -1,12 +1,13 @@
 ghost use Rattle.std.specs.Prelude.{◌≡◌};
 ghost use Rattle.std.specs.Option.{option_map};
 ghost use Rattle.bqn_syntax.specs.Expressions.{single, exported_part, exported};
-ghost use Rattle.bqn_syntax.specs.Plain.{part_of, pattern_of};
+ghost use Rattle.bqn_syntax.specs.Plain.{derived_of, part_of, pattern_of};
 ghost use Rattle.bqn_syntax.specs.Sorts.{same_tag, role_tag, is_name, is_word, named};
+ghost use Rattle.bqn_syntax.specs.Units.{Function};
 ghost use Rattle.bqn_parse.specs.Views.{unit_shown};
 
 use crate::unit::Unit;
-use bqn_syntax::{Kind, Part, Pattern, Tag, Token};
+use bqn_syntax::{Derived, Kind, Part, Pattern, Tag, Token};
 
 fn same_tag(one: Tag, other: Tag) -> bool
     ensures { result ≡ same_tag one other }
@@ -54,6 +55,19 @@ pub fn named(tag: Tag, part: Part) -> Option<Token>
     }
 }
 
+/// The part of a function that has no modifier.
+#[tactic(auto, using(crate::proofs::Singles::single_laws, bqn_syntax::specs::Levels::levels))]
+fn lone(function: Derived) -> Option<Part>
+    ensures { option_map part_of result ≡ single (Function (derived_of function)) }
+{
+    let Derived { first, uses } = function;
+    if uses.list().is_empty() {
+        Some(first)
+    } else {
+        None
+    }
+}
+
 /// The part that a unit is by itself, with no modifier.
 #[tactic(auto, using(bqn_syntax::specs::Levels::levels))]
 pub fn single(unit: Unit) -> Option<Part>
@@ -61,13 +75,7 @@ pub fn single(unit: Unit) -> Option<Part>
 {
     match unit {
         Unit::Subject(part) | Unit::Alone(part) => Some(part),
-        Unit::Function(function) => {
-            if function.uses.list().is_empty() {
-                Some(function.first)
-            } else {
-                None
-            }
-        }
+        Unit::Function(function) => lone(function),
         Unit::Absent(_) | Unit::Arrow(_) | Unit::Aim(_) => None,
     }
 }
@@ -98,14 +106,12 @@ pub fn exported(unit: Unit) -> Option<Pattern>
     match unit {
         Unit::Aim(pattern) => Some(pattern),
         Unit::Absent(part) => exported_part(part),
-        Unit::Subject(part) | Unit::Alone(part) => exported_part(part),
-        Unit::Function(function) => {
-            if function.uses.list().is_empty() {
-                exported_part(function.first)
-            } else {
-                None
-            }
-        }
+        Unit::Subject(part) => exported_part(part),
+        Unit::Alone(part) => exported_part(part),
+        Unit::Function(function) => match single(Unit::Function(function)) {
+            Some(part) => exported_part(part),
+            None => None,
+        },
         Unit::Arrow(_) => None,
     }
 }

@@ -1,17 +1,18 @@
-ghost use Rattle.std.specs.Prelude.{◌≡◌, IfOk};
+ghost use Rattle.std.specs.Prelude.{◌≡◌, ◌≤◌, ◌+◌, IfOk, ◌∷◌, length};
 ghost use Rattle.std.specs.Option.{option_map};
-ghost use Rattle.bqn_syntax.specs.Expressions.{steps_of};
-ghost use Rattle.bqn_syntax.specs.Plain.{derived_of};
+ghost use Rattle.bqn_syntax.specs.Expressions.{assigned, changed, more, steps_of};
+ghost use Rattle.bqn_syntax.specs.Plain.{Apply, Assign, Modify, Name, derived_of, none, part_of, pattern_of, some};
 ghost use Rattle.bqn_syntax.specs.Units.{Function, Arrow'};
 ghost use Rattle.bqn_syntax.specs.declared.tree.Arrow.TheVariants as arrows;
-ghost use Rattle.bqn_parse.specs.Leftward.{reading_shown, next_shown, steps_shown, Shorter};
+ghost use Rattle.bqn_parse.specs.Leftward.{reading_shown, next_shown, steps_shown, left_of};
+ghost use Rattle.bqn_parse.specs.Views.{backward};
 
 use crate::ends::pushed;
 use crate::named::named;
 use crate::reading::{Reading, read};
 use crate::unit::Unit;
 use bqn_base::{Memory, Row};
-use bqn_syntax::{Arrow, Derived, Part, Pattern, Step, Tag};
+use bqn_syntax::{Arrow, Derived, Part, Pattern, Step, Tag, Token};
 use std::alloc::Global;
 
 /// What stands left of a value.
@@ -23,93 +24,162 @@ pub enum Next {
     Step(Step, Reading),
 }
 
-/// A call of a function, whose left argument is next, if there is one.
-#[tactic(auto, using(bqn_syntax::specs::Levels::levels))]
-pub fn called(function: Derived, left: Reading) -> Next
-    ensures means { steps_of (Function (derived_of function) ∷ reading_shown left) ≡ next_shown result }
-    ensures shorter { Shorter (reading_shown left) result }
+/// A call of a function with a left argument.
+fn called_on(function: Derived, argument: Part, rest: Vec<Unit>) -> Next
+    ensures means { more (Apply (derived_of function) (some (part_of argument))) (steps_of (backward rest.items)) ≡ next_shown result }
+    ensures shorter { left_of result ≤ length (backward rest.items) + 1 }
 {
-    let Reading { next, rest } = left;
-    match next {
-        Some(Unit::Subject(part)) | Some(Unit::Absent(part)) => Next::Step(
-            Step::Apply {
-                function,
-                left: Some(part),
-            },
-            read(rest),
-        ),
-        other => Next::Step(
-            Step::Apply {
-                function,
-                left: None,
-            },
-            Reading { next: other, rest },
-        ),
+    let step = Step::Apply {
+        function,
+        left: Some(argument),
+    };
+    Next::Step(step, read(rest))
+}
+
+/// A call of a function without a left argument.
+fn called_alone(function: Derived, left: Reading) -> Next
+    ensures means { more (Apply (derived_of function) none) (steps_of (reading_shown left)) ≡ next_shown result }
+    ensures shorter { left_of result ≤ length (reading_shown left) + 1 }
+{
+    let step = Step::Apply {
+        function,
+        left: None,
+    };
+    Next::Step(step, left)
+}
+
+/// An assignment to a target.
+fn assigned_to(target: Pattern, arrow: Arrow, rest: Vec<Unit>) -> Next
+    ensures means { more (Assign (pattern_of target) arrow) (steps_of (backward rest.items)) ≡ next_shown result }
+    ensures shorter { left_of result ≤ length (backward rest.items) + 1 }
+{
+    let step = Step::Assign { target, arrow };
+    Next::Step(step, read(rest))
+}
+
+/// An assignment to a name.
+fn assigned_token(token: Token, arrow: Arrow, rest: Vec<Unit>) -> Next
+    ensures means { more (Assign (Name token) arrow) (steps_of (backward rest.items)) ≡ next_shown result }
+    ensures shorter { left_of result ≤ length (backward rest.items) + 1 }
+{
+    let step = Step::Assign {
+        target: Pattern::Name(token),
+        arrow,
+    };
+    Next::Step(step, read(rest))
+}
+
+/// A change of a name by a function.
+fn modified(target: Token, function: Derived, rest: Vec<Unit>) -> Next
+    ensures means { more (Modify target (derived_of function)) (steps_of (backward rest.items)) ≡ next_shown result }
+    ensures shorter { left_of result ≤ length (backward rest.items) + 1 }
+{
+    let step = Step::Modify { target, function };
+    Next::Step(step, read(rest))
+}
+
+/// An assignment to a name, where it is one.
+fn assigned_name(name: Option<Token>, arrow: Arrow, rest: Vec<Unit>) -> Next
+    ensures means { assigned name arrow (steps_of (backward rest.items)) ≡ next_shown result }
+    ensures shorter { left_of result ≤ length (backward rest.items) + 1 }
+{
+    match name {
+        Some(token) => assigned_token(token, arrow, rest),
+        None => Next::Wrong,
     }
 }
 
-/// A name that is changed by a function.
-#[tactic(auto, using(bqn_syntax::specs::Levels::levels))]
-pub fn changed(function: Derived, left: Reading) -> Next
-    ensures means { steps_of (Arrow' arrows.Change ∷ Function (derived_of function) ∷ reading_shown left) ≡ next_shown result }
-    ensures shorter { Shorter (reading_shown left) result }
+/// A change of a name by a function, where it is one.
+fn changed_name(name: Option<Token>, function: Derived, rest: Vec<Unit>) -> Next
+    ensures means { changed name (derived_of function) (steps_of (backward rest.items)) ≡ next_shown result }
+    ensures shorter { left_of result ≤ length (backward rest.items) + 1 }
+{
+    match name {
+        Some(target) => modified(target, function, rest),
+        None => Next::Wrong,
+    }
+}
+
+/// A call of a function, whose left argument is next, if there is one.
+pub fn called(function: Derived, left: Reading) -> Next
+    ensures means { steps_of (Function (derived_of function) ∷ reading_shown left) ≡ next_shown result }
+    ensures shorter { left_of result ≤ length (reading_shown left) + 1 }
 {
     let Reading { next, rest } = left;
     match next {
-        Some(Unit::Subject(part)) => match named(Tag::Subject, part) {
-            Some(target) => Next::Step(Step::Modify { target, function }, read(rest)),
-            None => Next::Wrong,
-        },
-        _ => Next::Wrong,
+        Some(Unit::Subject(part)) => called_on(function, part, rest),
+        Some(Unit::Absent(part)) => called_on(function, part, rest),
+        Some(Unit::Function(before)) => called_alone(
+            function,
+            Reading {
+                next: Some(Unit::Function(before)),
+                rest,
+            },
+        ),
+        Some(Unit::Arrow(arrow)) => called_alone(
+            function,
+            Reading {
+                next: Some(Unit::Arrow(arrow)),
+                rest,
+            },
+        ),
+        None => called_alone(function, Reading { next: None, rest }),
+        Some(Unit::Alone(_)) | Some(Unit::Aim(_)) => Next::Wrong,
+    }
+}
+
+/// A function behind the arrow `↩`, which changes the name that is next.
+pub fn change(function: Derived, left: Reading) -> Next
+    ensures means { steps_of (Arrow' arrows.Change ∷ Function (derived_of function) ∷ reading_shown left) ≡ next_shown result }
+    ensures shorter { left_of result ≤ length (reading_shown left) + 1 }
+{
+    let Reading { next, rest } = left;
+    match next {
+        Some(Unit::Subject(part)) => changed_name(named(Tag::Subject, part), function, rest),
+        Some(Unit::Function(_))
+        | Some(Unit::Absent(_))
+        | Some(Unit::Alone(_))
+        | Some(Unit::Arrow(_))
+        | Some(Unit::Aim(_))
+        | None => Next::Wrong,
     }
 }
 
 /// A function behind an arrow.
-#[tactic(auto, using(bqn_syntax::specs::Levels::levels))]
-fn changed_by(arrow: Arrow, function: Derived, left: Reading) -> Next
+fn change_by(arrow: Arrow, function: Derived, left: Reading) -> Next
     ensures means { steps_of (Arrow' arrow ∷ Function (derived_of function) ∷ reading_shown left) ≡ next_shown result }
-    ensures shorter { Shorter (reading_shown left) result }
+    ensures shorter { left_of result ≤ length (reading_shown left) + 1 }
 {
     match arrow {
-        Arrow::Change => changed(function, left),
+        Arrow::Change => change(function, left),
         Arrow::Define | Arrow::Export => Next::Wrong,
     }
 }
 
-/// A target of an arrow.
-#[tactic(auto, using(bqn_syntax::specs::Levels::levels))]
-fn assigned(arrow: Arrow, left: Reading) -> Next
+/// What an arrow does, by the target that is next.
+fn drawn(arrow: Arrow, left: Reading) -> Next
     ensures means { steps_of (Arrow' arrow ∷ reading_shown left) ≡ next_shown result }
-    ensures shorter { Shorter (reading_shown left) result }
+    ensures shorter { left_of result ≤ length (reading_shown left) + 1 }
 {
     let Reading { next, rest } = left;
     match next {
-        Some(Unit::Aim(target)) => Next::Step(Step::Assign { target, arrow }, read(rest)),
-        Some(Unit::Subject(part)) => match named(Tag::Subject, part) {
-            Some(token) => Next::Step(
-                Step::Assign {
-                    target: Pattern::Name(token),
-                    arrow,
-                },
-                read(rest),
-            ),
-            None => Next::Wrong,
-        },
-        Some(Unit::Function(function)) => changed_by(arrow, function, read(rest)),
+        Some(Unit::Aim(target)) => assigned_to(target, arrow, rest),
+        Some(Unit::Subject(part)) => assigned_name(named(Tag::Subject, part), arrow, rest),
+        Some(Unit::Function(function)) => change_by(arrow, function, read(rest)),
         Some(Unit::Absent(_)) | Some(Unit::Alone(_)) | Some(Unit::Arrow(_)) | None => Next::Wrong,
     }
 }
 
 /// What is done with a value, by what stands left of it.
-fn next_step(left: Reading) -> Next
+pub fn next_step(left: Reading) -> Next
     ensures means { steps_of (reading_shown left) ≡ next_shown result }
-    ensures shorter { Shorter (reading_shown left) result }
+    ensures shorter { left_of result ≤ length (reading_shown left) }
 {
     let Reading { next, rest } = left;
     match next {
         None => Next::End,
         Some(Unit::Function(function)) => called(function, read(rest)),
-        Some(Unit::Arrow(arrow)) => assigned(arrow, read(rest)),
+        Some(Unit::Arrow(arrow)) => drawn(arrow, read(rest)),
         Some(Unit::Subject(_))
         | Some(Unit::Absent(_))
         | Some(Unit::Alone(_))

@@ -61,7 +61,7 @@ fn closed(grouping: Grouping) -> Result<Option<Row<Unit>>, Memory>
     match binding {
         Binding::Free => Ok(Some(Row::new(units))),
         Binding::Bound(first, uses) => Ok(Some(Row::new(pushed(units, unit_of(first, uses))?))),
-        Binding::Wanting(_, _, _) => Ok(None),
+        Binding::Wanting(..) => Ok(None),
     }
 }
 
