@@ -50,3 +50,9 @@ pub mod Marking
 pub mod Parsed
 pub mod Stepping
 pub mod Walking
+pub mod Backward
+pub mod Binding
+pub mod Expressions
+pub mod Leftward
+pub mod Singles
+pub mod Trains

@@ -3,6 +3,7 @@
 
 mod blocks;
 mod close;
+mod ends;
 mod error;
 mod expression;
 mod item;
@@ -11,14 +12,19 @@ mod laws;
 mod level;
 mod looks;
 mod marks;
+mod named;
 mod parsing;
 mod pattern;
 mod pieces;
+mod reading;
 mod step;
+mod steps;
 mod strand;
 mod tags;
+mod targets;
 mod term;
 mod terms;
+mod train;
 mod unit;
 mod units;
 

@@ -1,0 +1,22 @@
+ghost use Rattle.std.specs.Prelude.{◌≡◌};
+ghost use Rattle.bqn_parse.specs.Leftward.{reading_shown};
+ghost use Rattle.bqn_parse.specs.Views.{backward};
+
+use crate::unit::Unit;
+
+/// Units that are read leftward: the next one, and those left of it. With no next one there is none.
+#[derive(Drop)]
+pub struct Reading {
+    pub next: Option<Unit>,
+    pub rest: Vec<Unit>,
+}
+
+/// The reading of these units, which stand in order.
+#[tactic(auto, using(crate::proofs::Backward::unit_laws))]
+pub fn read(units: Vec<Unit>) -> Reading
+    ensures { reading_shown result ≡ backward units.items }
+{
+    let mut rest = units;
+    let next = rest.pop();
+    Reading { next, rest }
+}
