@@ -119,11 +119,11 @@ header_goes h w ts f =
     let so = lists open_list [] in
     let g = own_tag h.own.kind in
     let a : Goes so (header_all h) [] ts =
-        goes_on (argument_goes is_left h.left so (token_signs h.left_operand (Exact h.own ∷ token_signs h.right_operand (argument_signs h.right []))) ts left_stands w.left f) (λ r1 f1.
-        goes_on (operand_goes is_left_operand h.left_operand (having so (argument_items h.left)) (Exact h.own ∷ token_signs h.right_operand (argument_signs h.right [])) r1 left_operand_stands (fits_left g h.left_operand h.right_operand w.self) f1) (λ r2 f2.
-        goes_on (goes_token (having (having so (argument_items h.left)) (token_items h.left_operand)) h.own (token_signs h.right_operand (argument_signs h.right [])) r2 (own_stands h.own.kind (fits_own g h.left_operand h.right_operand w.self)) f2) (λ r3 f3.
-        goes_on (operand_goes is_right_operand h.right_operand (having (having (having so (argument_items h.left)) (token_items h.left_operand)) (part_item (Leaf h.own) ∷ [])) (argument_signs h.right []) r3 right_operand_stands (fits_right g h.left_operand h.right_operand w.self) f3) (λ r4 f4.
-        argument_goes is_right h.right (having (having (having (having so (argument_items h.left)) (token_items h.left_operand)) (part_item (Leaf h.own) ∷ [])) (token_items h.right_operand)) [] r4 right_stands w.right f4)))) in
+    goes_on (argument_goes is_left h.left so (token_signs h.left_operand (Exact h.own ∷ token_signs h.right_operand (argument_signs h.right []))) ts left_stands w.left f) (λ r1 f1.
+    goes_on (operand_goes is_left_operand h.left_operand (having so (argument_items h.left)) (Exact h.own ∷ token_signs h.right_operand (argument_signs h.right [])) r1 left_operand_stands (fits_left g h.left_operand h.right_operand w.self) f1) (λ r2 f2.
+    goes_on (goes_token (having (having so (argument_items h.left)) (token_items h.left_operand)) h.own (token_signs h.right_operand (argument_signs h.right [])) r2 (own_stands h.own.kind (fits_own g h.left_operand h.right_operand w.self)) f2) (λ r3 f3.
+    goes_on (operand_goes is_right_operand h.right_operand (having (having (having so (argument_items h.left)) (token_items h.left_operand)) (part_item (Leaf h.own) ∷ [])) (argument_signs h.right []) r3 right_operand_stands (fits_right g h.left_operand h.right_operand w.self) f3) (λ r4 f4.
+    argument_goes is_right h.right (having (having (having (having so (argument_items h.left)) (token_items h.left_operand)) (part_item (Leaf h.own) ∷ [])) (token_items h.right_operand)) [] r4 right_stands w.right f4)))) in
     a.goes ∙ ap (λ (l : List Token). header_items (having so (header_all h)) l) (none_left a.rest a.fits)
 
 -- The groups of a header.

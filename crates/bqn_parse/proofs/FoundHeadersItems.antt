@@ -166,7 +166,7 @@ mutual
         rest = r.0;
         fits = r.1;
         goes = goes_step so (lists open_list (so.inner ∷ so.outer)) (Opens Angle) m.0 ts m.1 m.2 (mark_sort m.0 10216 (Opens Angle) m.3 refl) refl ∙ g.2 ∙ r.2
-          ∙ ap (λ (l : Patterns). header_items (having so (Standing (OfList (ListPattern l)) ∷ [])) r.0) (patterns_back qs);
+            ∙ ap (λ (l : Patterns). header_items (having so (Standing (OfList (ListPattern l)) ∷ [])) r.0) (patterns_back qs);
       }
   pattern_goes (StrandPattern qs) so k ts w f = joined_goes qs so k ts w.1 f
 

@@ -18,7 +18,6 @@ use Rattle.bqn_syntax.specs.Classes.{is_predicate}
 use Rattle.bqn_syntax.specs.Spells.{Sign, Exact, Mark, Apart, Gap, Fits, done, exact, mark, apart, one_more, no_more, arrow_code, mark_at, pattern_signs, listed_signs, listed_more, joined_signs, joined_more, token_signs, argument_signs, header_signs, target_signs, name_signs, expr_signs, part_signs, maybe_signs, steps_signs, step_signs, derived_signs, uses_signs, use_signs, deriveds_signs, exprs_signs, exprs_more, parts_signs, parts_more, stmt_signs, stmts_signs, body_signs, bodies_signs, bodies_more, block_signs}
 use Rattle.bqn_syntax.specs.Well.{IsLiteral, WellPattern, WellPatterns, WellJoined, IsArgument, special, pattern, ArgumentFits, OperandFits, SelfFits, WellHeader, HeaderFits, TargetsFit, NamesFit, WellExpr, WellPart, WellSteps, WellStep, WellDerived, WellUses, WellUse, WellDeriveds, WellExprs, WellParts, WellStmt, WellStmts, WellBody, WellBodies, WellBlock}
 use Rattle.bqn_syntax.specs.Plain.{Pattern, Name, Skip, Literal, ListPattern, StrandPattern, Patterns, no_patterns, and_patterns, Header, Expr, Value, Train, Modifier, Use, One, Two, Part, Leaf, Elements, Merge, Paren, Block, Field, Strand, Nothing, Step, Apply, Assign, Modify, Stmt, Eval, Predicate, Export, BlockTree, block, BodyTree, body, Derived, derived, MaybePart, none, some, Exprs, no_exprs, and_exprs, Uses, no_uses, and_uses, Parts, no_parts, and_parts, Steps, no_steps, and_steps, Stmts, no_stmts, and_stmts, Bodies, no_bodies, and_bodies, Deriveds, no_deriveds, and_deriveds}
-
 use Rattle.bqn_syntax.specs.Well.{IsNoStrand, AreTwo, IsBase, IsElement, AreTwoParts}
 use Rattle.bqn_parse.proofs.WalkedLooks.{arrow_ahead, element_ahead, colon_ahead, outer_of, Crosses, Passes, Groups, crosses, then_cross, crosses_gap, exact_is, mark_is, mark_sort, group_of, list_groups, word_stands, name_stands, literal_stands, expr_passes, exprs_crosses, bodies_crosses, arrow_sort}
 
@@ -117,13 +116,13 @@ elements_groups : (es : Exprs) (k : List Sign) (ts : List Token) → WellExprs e
 elements_groups es k ts w f =
     let m = mark_is f in
     group_of Angle 10217 m.0 k ts m.1 m.2 (mark_sort m.0 10216 (Opens Angle) m.3 refl) refl
-      (then_cross (crosses_gap (exprs_signs es (Gap ∷ Mark 10217 ∷ k)) m.1 m.4) (λ rest g. exprs_crosses es (Mark 10217 ∷ k) rest w g))
+    (then_cross (crosses_gap (exprs_signs es (Gap ∷ Mark 10217 ∷ k)) m.1 m.4) (λ rest g. exprs_crosses es (Mark 10217 ∷ k) rest w g))
 
 merge_groups : (es : Exprs) (k : List Sign) (ts : List Token) → WellExprs es → Fits (Mark 91 ∷ Gap ∷ exprs_signs es (Gap ∷ Mark 93 ∷ k)) ts → Groups k ts
 merge_groups es k ts w f =
     let m = mark_is f in
     group_of Square 93 m.0 k ts m.1 m.2 (mark_sort m.0 91 (Opens Square) m.3 refl) refl
-      (then_cross (crosses_gap (exprs_signs es (Gap ∷ Mark 93 ∷ k)) m.1 m.4) (λ rest g. exprs_crosses es (Mark 93 ∷ k) rest w g))
+    (then_cross (crosses_gap (exprs_signs es (Gap ∷ Mark 93 ∷ k)) m.1 m.4) (λ rest g. exprs_crosses es (Mark 93 ∷ k) rest w g))
 
 parens_groups : (e : Expr) (k : List Sign) (ts : List Token) → WellExpr e → Fits (Mark 40 ∷ expr_signs e (Mark 41 ∷ k)) ts → Groups k ts
 parens_groups e k ts w f =
@@ -168,6 +167,7 @@ part_arrows (Strand ps) k w ts f = parts_arrow ps k ts w.0 w.1 f
         part_arrows' (Strand ps) k ts n w f = elim n [ ]
     element_arrow (Nothing place) k ts n w f = elim n [ ]
     element_arrow (Strand ps) k ts n w f = elim n [ ]
+
     parts_arrow : (ps : Parts) (k : List Sign) (ts : List Token) → AreTwoParts ps → WellParts ps → Fits (parts_signs ps k) ts → arrow_ahead ts ≡ false
     parts_arrow no_parts k ts n w f = elim n [ ]
     parts_arrow (and_parts x xs) k ts n w f = element_arrow x (parts_more xs k) ts w.0 w.1 f

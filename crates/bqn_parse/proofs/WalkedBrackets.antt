@@ -170,6 +170,7 @@ opening_is c e = go (40 == c) (123 == c) (10216 == c) (91 == c) refl refl refl r
   where
     same : (n : ℕ) → (n == c) ≡ true → c ≡ n
     same n e = grind arith
+
     go : (x y z w : Bool) → (40 == c) ≡ x → (123 == c) ≡ y → (10216 == c) ≡ z → (91 == c) ≡ w → is_opening c ≡ true → ((c ≡ 40) ⊎ (c ≡ 123)) ⊎ ((c ≡ 10216) ⊎ (c ≡ 91))
     go true y z w a b d f e = inl (inl (same 40 a))
     go false true z w a b d f e = inl (inr (same 123 b))
@@ -182,6 +183,7 @@ closing_is c e = go (41 == c) (125 == c) (10217 == c) (93 == c) refl refl refl r
   where
     same : (n : ℕ) → (n == c) ≡ true → c ≡ n
     same n e = grind arith
+
     go : (x y z w : Bool) → (41 == c) ≡ x → (125 == c) ≡ y → (10217 == c) ≡ z → (93 == c) ≡ w → is_closing c ≡ true → ((c ≡ 41) ⊎ (c ≡ 125)) ⊎ ((c ≡ 10217) ⊎ (c ≡ 93))
     go true y z w a b d f e = inl (inl (same 41 a))
     go false true z w a b d f e = inl (inr (same 125 b))
@@ -194,10 +196,11 @@ no_opening c q p n = go (is_opening c) refl
   where
     opens_then : (m : ℕ) (b : Bracket) → c ≡ m → punct_sort m ≡ Opens b → ⊥
     opens_then m b e d = n b (sym p ∙ ap punct_sort e ∙ d)
+
     go : (x : Bool) → is_opening c ≡ x → x ≡ false
     go false e = refl
     go true e = elim (opening_is c e) [
-        inl (inl d) ↦ absurd (opens_then 40 Round d refl)
+      | inl (inl d) ↦ absurd (opens_then 40 Round d refl)
       | inl (inr d) ↦ absurd (opens_then 123 Curly d refl)
       | inr (inl d) ↦ absurd (opens_then 10216 Angle d refl)
       | inr (inr d) ↦ absurd (opens_then 91 Square d refl)
@@ -208,10 +211,11 @@ no_closing c q p n = go (is_closing c) refl
   where
     closes_then : (m : ℕ) (b : Bracket) → c ≡ m → punct_sort m ≡ Closes b → ⊥
     closes_then m b e d = n b (sym p ∙ ap punct_sort e ∙ d)
+
     go : (x : Bool) → is_closing c ≡ x → x ≡ false
     go false e = refl
     go true e = elim (closing_is c e) [
-        inl (inl d) ↦ absurd (closes_then 41 Round d refl)
+      | inl (inl d) ↦ absurd (closes_then 41 Round d refl)
       | inl (inr d) ↦ absurd (closes_then 125 Curly d refl)
       | inr (inl d) ↦ absurd (closes_then 10217 Angle d refl)
       | inr (inr d) ↦ absurd (closes_then 93 Square d refl)
@@ -231,10 +235,10 @@ other_token index (kind.Given z) place now q e n m = refl
 
 stays_follows : (index : ℕ) (t : Token) (now : Nesting) (so next : Levels) (q : Sort) → sort_of t.kind ≡ q → ((b : Bracket) → q ≡ Opens b → ⊥) → ((b : Bracket) → q ≡ Closes b → ⊥) → Around so.level.inside so.outer now.around → Stays so.level so.outer next → Follows index t now next
 stays_follows index t now so next q e n m a s = record {
-    then_now = alone index now;
-    is = other_token index t.kind t.place now q e n m;
-    around = subst (λ (i : Inside). Around i next.outer now.around) (sym s.inside) (subst (λ (o : List Level). Around so.level.inside o now.around) (sym s.outer) a);
-  }
+  then_now = alone index now;
+  is = other_token index t.kind t.place now q e n m;
+  around = subst (λ (i : Inside). Around i next.outer now.around) (sym s.inside) (subst (λ (o : List Level). Around so.level.inside o now.around) (sym s.outer) a);
+}
 
 -- a bracket that opens
 opened_ok : (i : Inside) (tokens : List Token) (place : Place) (so next : Levels) → opened i tokens place so ≡ Ok next → (nat_lt (length so.outer) 128 ≡ true) × (next ≡ levels (fresh i place) (begun tokens so.level ∷ so.outer))
@@ -262,13 +266,16 @@ list_code a i h = go a.arrow a.colon i h
     plain : (x : Bool) → CodeFits (if x then inside.Pattern else inside.List) 10216
     plain true = refl
     plain false = refl
+
     heading : (x y : Bool) → CodeFits (if x then inside.Pattern else (if y then inside.HeaderPattern else inside.List)) 10216
     heading true y = refl
     heading false true = refl
     heading false false = refl
+
     patterned : (x : Bool) → CodeFits (if x then inside.Pattern else inside.HeaderPattern) 10216
     patterned true = refl
     patterned false = refl
+
     go : (x y : Bool) (i : Inside) (h : Bool) → CodeFits (list_inside (record { arrow = x; element = a.element; colon = y }) i h) 10216
     go x y inside.Pattern h = refl
     go x y inside.HeaderPattern h = patterned x
@@ -292,8 +299,8 @@ opens_follow b a index t tokens now so next e ar d =
     record {
       then_now = record { around = bracket ∷ now.around; partners = now.partners ++ index ∷ [] };
       is = ap (λ (k : Kind). behind_token index k t.place now) (mark_of t.kind (Opens b) e tt)
-        ∙ opens_marked b index t.place now
-        ∙ bracket_opened bracket now (not_deepest (length so.outer) (length now.around) (around_length so.level.inside so.outer now.around ar) o.0);
+          ∙ opens_marked b index t.place now
+          ∙ bracket_opened bracket now (not_deepest (length so.outer) (length now.around) (around_length so.level.inside so.outer now.around ar) o.0);
       around = subst (λ (x : Levels). Around x.level.inside x.outer (bracket ∷ now.around)) (sym o.1) (inside_code b a so.level, ar);
     }
 
@@ -306,6 +313,7 @@ handed_ok place (Ok x) (around ∷ rest) next e = (around, rest, refl, sym (ap i
     inside_in : Result Levels Refusal → Inside
     inside_in (Ok n) = n.level.inside
     inside_in (Err r) = around.inside
+
     outer_in : Result Levels Refusal → List Level
     outer_in (Ok n) = n.outer
     outer_in (Err r) = rest
@@ -335,13 +343,13 @@ same_true n m e = grind arith
 closes_top : (b : Bracket) (index : ℕ) (t : Token) (now : Nesting) (os : List Open) (i : Inside) (around : Level) (rest : List Level) (next : Levels) → sort_of t.kind ≡ Closes b → now.around ≡ os → Around i (around ∷ rest) os → closes b i ≡ true → next.level.inside ≡ around.inside → next.outer ≡ rest → Follows index t now next
 closes_top b index t now [] i around rest next e n ar c x y = elim ar [ ]
 closes_top b index t now (o ∷ os) i around rest next e n ar c x y = record {
-    then_now = record { around = os; partners = set now.partners o.index index ++ o.index ∷ [] };
-    is = ap (λ (k : Kind). behind_token index k t.place now) (mark_of t.kind (Closes b) e tt)
+  then_now = record { around = os; partners = set now.partners o.index index ++ o.index ∷ [] };
+  is = ap (λ (k : Kind). behind_token index k t.place now) (mark_of t.kind (Closes b) e tt)
       ∙ closes_marked b index t.place now
       ∙ ap (λ (l : List Open). brackets.closed (record { index = index; code = sort_code (Closes b); place = t.place }) l now.partners) n
       ∙ ap (λ (z : Bool). if z then Ok (record { around = os; partners = set now.partners o.index index ++ o.index ∷ [] }) else Err (refusal.Bracket t.place)) (same_true (closing_of o.code) (sort_code (Closes b)) (closing_code b i o.code c ar.0));
-    around = subst (λ (z : Inside). Around z next.outer os) (sym x) (subst (λ (z : List Level). Around around.inside z os) (sym y) ar.1);
-  }
+  around = subst (λ (z : Inside). Around z next.outer os) (sym x) (subst (λ (z : List Level). Around around.inside z os) (sym y) ar.1);
+}
 
 closes_follow : (b : Bracket) (index : ℕ) (t : Token) (now : Nesting) (so next : Levels) → sort_of t.kind ≡ Closes b → Around so.level.inside so.outer now.around → closed (closes b so.level.inside) t.place so ≡ Ok next → Follows index t now next
 closes_follow b index t now so next e ar d =

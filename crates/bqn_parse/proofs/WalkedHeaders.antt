@@ -261,14 +261,16 @@ header_is_walked h place so_far outer k ts w d f =
     let t = header_takes h (levels l outer) (exacts p.rest) ts w (refl, refl, refl) d a y gs in
     let r = only_exacts p.rest t.arrives.rest t.arrives.fits in
     let c = mark_is p.behind in
-    let m = having l (header_items h) t.arrives.first in
-    (c.1, c.4,
+    let m = having l (header_items h) t.arrives.first in (
+      c.1,
+      c.4,
       t.arrives.walks
-      ∙ ap (λ (x : List Token). walk (levels m outer) x) r
-      ∙ walk_step (levels m outer) (levels (clean (and_header h l)) outer) Heads c.0 p.rest c.1 c.2 (mark_sort c.0 58 Heads c.3 refl)
+          ∙ ap (λ (x : List Token). walk (levels m outer) x) r
+          ∙ walk_step (levels m outer) (levels (clean (and_header h l)) outer) Heads c.0 p.rest c.1 c.2 (mark_sort c.0 58 Heads c.3 refl)
           (ap (λ (x : Result Level Refusal). go_on outer x)
-            (headed_items (header_items h) (c.0 ∷ c.1) c.0.place m (header_items_some h)
-            ∙ ap (λ (x : Option (List Token)). known_header c.0.place (header_in (tokens_before x (c.0 ∷ c.1))) m) t.begins
-            ∙ ap (λ (x : List Token). known_header c.0.place (header_in (before ts x)) m) (sym c.2)
-            ∙ ap (λ (x : List Token). known_header c.0.place (header_in x) m) (before_is p.piece p.rest ts p.is)
-            ∙ ap (λ (o : Option Header). known_header c.0.place o m) (header_found h w p.piece p.front))))
+          (headed_items (header_items h) (c.0 ∷ c.1) c.0.place m (header_items_some h)
+          ∙ ap (λ (x : Option (List Token)). known_header c.0.place (header_in (tokens_before x (c.0 ∷ c.1))) m) t.begins
+          ∙ ap (λ (x : List Token). known_header c.0.place (header_in (before ts x)) m) (sym c.2)
+          ∙ ap (λ (x : List Token). known_header c.0.place (header_in x) m) (before_is p.piece p.rest ts p.is)
+          ∙ ap (λ (o : Option Header). known_header c.0.place o m) (header_found h w p.piece p.front))),
+    )

@@ -107,11 +107,11 @@ apart_is (apart {t = t} {ts = rest} e f) = (t, rest, refl, e, f)
 
 passes_one : (q : Sort) (t : Token) {k : List Sign} (ts rest : List Token) → ts ≡ t ∷ rest → sort_of t.kind ≡ q → IsInner q → Fits k rest → Passes k ts
 passes_one q t ts rest is e w f = record {
-    rest = rest;
-    fits = f;
-    outer = ap outer_of is ∙ ap (λ (l : Looks). l.outer) (looks_cons q t rest e) ∙ inner_outer q (looks_of rest) w;
-    colon = ap colon_ahead is ∙ ap (λ (l : Looks). l.here.colon) (looks_cons q t rest e) ∙ inner_colon q (looks_of rest) w;
-  }
+  rest = rest;
+  fits = f;
+  outer = ap outer_of is ∙ ap (λ (l : Looks). l.outer) (looks_cons q t rest e) ∙ inner_outer q (looks_of rest) w;
+  colon = ap colon_ahead is ∙ ap (λ (l : Looks). l.here.colon) (looks_cons q t rest e) ∙ inner_colon q (looks_of rest) w;
+}
 
 pub passes_exact : (q : Sort) (t : Token) (k : List Sign) (ts : List Token) → sort_of t.kind ≡ q → IsInner q → Fits (Exact t ∷ k) ts → Passes k ts
 passes_exact q t k ts e w f = let x = exact_is f in passes_one q t ts x.0 x.1 e w x.2
@@ -150,10 +150,10 @@ boundary_outer (Closes b) l w = elim w [ ]
 
 crosses_one : (q : Sort) (t : Token) {k : List Sign} (ts rest : List Token) → ts ≡ t ∷ rest → sort_of t.kind ≡ q → IsBoundary q → Fits k rest → Crosses k ts
 crosses_one q t ts rest is e w f = record {
-    rest = rest;
-    fits = f;
-    outer = ap outer_of is ∙ ap (λ (l : Looks). l.outer) (looks_cons q t rest e) ∙ boundary_outer q (looks_of rest) w;
-  }
+  rest = rest;
+  fits = f;
+  outer = ap outer_of is ∙ ap (λ (l : Looks). l.outer) (looks_cons q t rest e) ∙ boundary_outer q (looks_of rest) w;
+}
 
 pub crosses_mark : (q : Sort) (c : ℕ) (k : List Sign) (ts : List Token) → punct_sort c ≡ q → IsBoundary q → Fits (Mark c ∷ k) ts → Crosses k ts
 crosses_mark q c k ts p w f = let x = mark_is f in crosses_one q x.0 ts x.1 x.2 (mark_sort x.0 c q x.3 p) w x.4
@@ -232,7 +232,7 @@ mutual
   pattern_passes b (ListPattern qs) k ts w f =
       let m = mark_is f in
       grouped (group_of Angle 10217 m.0 k ts m.1 m.2 (mark_sort m.0 10216 (Opens Angle) m.3 refl) refl
-        (then_cross (crosses_gap (listed_signs qs (Gap ∷ Mark 10217 ∷ k)) m.1 m.4) (λ rest g. listed_crosses b qs (Mark 10217 ∷ k) rest w g)))
+      (then_cross (crosses_gap (listed_signs qs (Gap ∷ Mark 10217 ∷ k)) m.1 m.4) (λ rest g. listed_crosses b qs (Mark 10217 ∷ k) rest w g)))
   pattern_passes b (StrandPattern qs) k ts w f = joined_passes b qs k ts w.1 f
 
   pub listed_crosses : (b : Bool) (qs : Patterns) (k : List Sign) (ts : List Token) → WellPatterns b qs → Fits (listed_signs qs (Gap ∷ k)) ts → Crosses k ts
@@ -379,11 +379,11 @@ mutual
   part_passes (Elements es) k ts w f =
       let m = mark_is f in
       grouped (group_of Angle 10217 m.0 k ts m.1 m.2 (mark_sort m.0 10216 (Opens Angle) m.3 refl) refl
-        (then_cross (crosses_gap (exprs_signs es (Gap ∷ Mark 10217 ∷ k)) m.1 m.4) (λ rest g. exprs_crosses es (Mark 10217 ∷ k) rest w g)))
+      (then_cross (crosses_gap (exprs_signs es (Gap ∷ Mark 10217 ∷ k)) m.1 m.4) (λ rest g. exprs_crosses es (Mark 10217 ∷ k) rest w g)))
   part_passes (Merge es) k ts w f =
       let m = mark_is f in
       grouped (group_of Square 93 m.0 k ts m.1 m.2 (mark_sort m.0 91 (Opens Square) m.3 refl) refl
-        (then_cross (crosses_gap (exprs_signs es (Gap ∷ Mark 93 ∷ k)) m.1 m.4) (λ rest g. exprs_crosses es (Mark 93 ∷ k) rest w.1 g)))
+      (then_cross (crosses_gap (exprs_signs es (Gap ∷ Mark 93 ∷ k)) m.1 m.4) (λ rest g. exprs_crosses es (Mark 93 ∷ k) rest w.1 g)))
   part_passes (Paren e) k ts w f =
       let m = mark_is f in
       grouped (group_of Round 41 m.0 k ts m.1 m.2 (mark_sort m.0 40 (Opens Round) m.3 refl) refl (crosses (expr_passes e (Mark 41 ∷ k) m.1 w m.4)))

@@ -215,7 +215,7 @@ mutual
   joined_arrives no_patterns j b c so k ts w p h d x y f = nothing_more so k ts f
   joined_arrives (and_patterns q qs) j b c so k ts w p h d x y f =
       and_then (pattern_arrives q j b c so (joined_more qs k) ts w.1 p h (omega (arith, le-max_left (pattern_depth q) (patterns_depth qs))) (joined_arrows (literals_in j) b qs k w.2 x) (joined_colons (literals_in j) c qs k w.2 y) f)
-        (λ first rest g. joined_more_arrives qs j b c (levels (having so.level (pattern_items q) first) so.outer) k rest w.2 p h (omega (arith, le-max_right (pattern_depth q) (patterns_depth qs))) x y g)
+      (λ first rest g. joined_more_arrives qs j b c (levels (having so.level (pattern_items q) first) so.outer) k rest w.2 p h (omega (arith, le-max_right (pattern_depth q) (patterns_depth qs))) x y g)
 
   joined_more_arrives : (qs : Patterns) (j : Inside) (b c : Bool) (so : Levels) (k : List Sign) (ts : List Token) → WellJoined (literals_in j) qs → IsPatternInside j → Chooses so.level b c j → length so.outer + patterns_depth qs ≤ 128 → Arrows b k → Colons c k → Fits (joined_more qs k) ts → Arrives so (joined_more_items qs) k ts
   joined_more_arrives no_patterns j b c so k ts w p h d x y f = nothing_more so k ts f

@@ -76,6 +76,7 @@ nothing_more so k ts f = record { rest = ts; first = so.level.first; fits = f; b
     all : (is : List Item) → is ≡ is ++ []
     all [] = refl
     all (i ∷ is) = ap (λ (l : List Item). i ∷ l) (all is)
+
     same : (l : Level) → l ≡ having l [] l.first
     same l = ap (λ (is : List Item). record { inside = l.inside; opened = l.opened; first = l.first; items = is; expressions = l.expressions; targets = l.targets; header = l.header; statements = l.statements; done = l.done }) (all l.items)
 
@@ -97,12 +98,12 @@ to_items {so = so} {k = k} {ts = ts} e x = subst (λ (l : List Item). Arrives so
 -- one token that is one item
 abbrev pub take_one : (so : Levels) (q : Sort) (i : Item) (t : Token) (k : List Sign) (ts rest : List Token) → ts ≡ t ∷ rest → sort_of t.kind ≡ q → ((a : Ahead) → step q a t (t ∷ rest) so ≡ taken i (t ∷ rest) so) → Fits k rest → Arrives so (i ∷ []) k ts
 take_one so q i t k ts rest is e s f = record {
-    rest = rest;
-    first = or_first so.level.first ts;
-    fits = f;
-    began = inl refl;
-    walks = walk_step so (levels (having so.level (i ∷ []) (or_first so.level.first (t ∷ rest))) so.outer) q t ts rest is e (s (behind_group rest)) ∙ ap (λ (l : List Token). walk (levels (having so.level (i ∷ []) (or_first so.level.first l)) so.outer) rest) (sym is);
-  }
+  rest = rest;
+  first = or_first so.level.first ts;
+  fits = f;
+  began = inl refl;
+  walks = walk_step so (levels (having so.level (i ∷ []) (or_first so.level.first (t ∷ rest))) so.outer) q t ts rest is e (s (behind_group rest)) ∙ ap (λ (l : List Token). walk (levels (having so.level (i ∷ []) (or_first so.level.first l)) so.outer) rest) (sym is);
+}
 
 abbrev pub take_exact : (so : Levels) (q : Sort) (i : Item) (t : Token) (k : List Sign) (ts : List Token) → sort_of t.kind ≡ q → ((a : Ahead) (rest : List Token) → step q a t (t ∷ rest) so ≡ taken i (t ∷ rest) so) → Fits (Exact t ∷ k) ts → Arrives so (i ∷ []) k ts
 take_exact so q i t k ts e s f = let x = exact_is f in take_one so q i t k ts x.0 x.1 e (λ a. s a x.0) x.2
@@ -157,7 +158,7 @@ Completes l is next = (place : Place) (f : Option (List Token)) → ended place 
 pub separator_ends : (l next : Level) (is : List Item) (f : Option (List Token)) (outer : List Level) (t : Token) (rest : List Token) → Many l.inside → Completes l is next → sort_of t.kind ≡ Separates → walk (levels (having (clean l) is f) outer) (t ∷ rest) ≡ walk (levels next outer) rest
 separator_ends l next is f outer t rest m c e =
     walk_step (levels (having (clean l) is f) outer) (levels next outer) Separates t (t ∷ rest) rest refl e
-      (separated_is l.inside (t ∷ rest) t.place (levels (having (clean l) is f) outer) m ∙ ap (λ (r : Result Level Refusal). go_on outer r) (c t.place f))
+    (separated_is l.inside (t ∷ rest) t.place (levels (having (clean l) is f) outer) m ∙ ap (λ (r : Result Level Refusal). go_on outer r) (c t.place f))
 
 -- a separator that ends a piece, and those behind it
 pub apart_walks : (l next : Level) (is : List Item) (f : Option (List Token)) (outer : List Level) (k : List Sign) (ts : List Token) → Many l.inside → Many next.inside → Completes l is (clean next) → Fits (Apart ∷ Gap ∷ k) ts → (rest : List Token) × Fits k rest × (walk (levels (having (clean l) is f) outer) ts ≡ walk (levels (clean next) outer) rest)
@@ -180,9 +181,9 @@ closed_is false place so e = absurd (cc)
 pub close_step : (b : Bracket) (l next around : Level) (x : Element) (outer : List Level) (t : Token) (ts rest : List Token) → ts ≡ t ∷ rest → sort_of t.kind ≡ Closes b → closes b l.inside ≡ true → ended t.place l ≡ Ok next → Makes next x → walk (levels l (around ∷ outer)) ts ≡ walk (levels (and_item (Standing x) around) outer) rest
 close_step b l next around x outer t ts rest is e c d m =
     walk_step (levels l (around ∷ outer)) (levels (and_item (Standing x) around) outer) (Closes b) t ts rest is e
-      (closed_is (closes b l.inside) t.place (levels l (around ∷ outer)) c
-      ∙ ap (λ (r : Result Level Refusal). handed t.place (whole_of t.place r) (around ∷ outer)) d
-      ∙ ap (λ (r : Result Element Refusal). handed t.place r (around ∷ outer)) (m t.place))
+    (closed_is (closes b l.inside) t.place (levels l (around ∷ outer)) c
+    ∙ ap (λ (r : Result Level Refusal). handed t.place (whole_of t.place r) (around ∷ outer)) d
+    ∙ ap (λ (r : Result Element Refusal). handed t.place r (around ∷ outer)) (m t.place))
 
 -- behind a piece: separators, if any, and the closing bracket
 pub close_after : (b : Bracket) (c : ℕ) (l next around : Level) (x : Element) (is : List Item) (f : Option (List Token)) (outer : List Level) (k : List Sign) (ts : List Token) → punct_sort c ≡ Closes b → closes b l.inside ≡ true → closes b next.inside ≡ true → Many l.inside → Many next.inside → Completes l is (clean next) → Makes (clean next) x → Fits (Gap ∷ Mark c ∷ k) ts → (rest : List Token) × Fits k rest × (walk (levels (having (clean l) is f) (around ∷ outer)) ts ≡ walk (levels (and_item (Standing x) around) outer) rest)
@@ -210,23 +211,24 @@ lt_true n h = grind arith
 pub open_step : (b : Bracket) (so : Levels) (t : Token) (ts rest : List Token) (i : Inside) → ts ≡ t ∷ rest → sort_of t.kind ≡ Opens b → length so.outer < 128 → inside_of b (behind_group rest) so.level ≡ i → walk so ts ≡ walk (levels (clean (fresh i t.place)) (having so.level [] (or_first so.level.first ts) ∷ so.outer)) rest
 open_step b so t ts rest i is e h n =
     walk_step so (levels (fresh i t.place) (begun (t ∷ rest) so.level ∷ so.outer)) (Opens b) t ts rest is e
-      (ap (λ (j : Inside). opened j (t ∷ rest) t.place so) n
-      ∙ ap (λ (x : Bool). if x then Ok (levels (fresh i t.place) (begun (t ∷ rest) so.level ∷ so.outer)) else Err (refusal.TooNested t.place)) (lt_true (length so.outer) h))
+    (ap (λ (j : Inside). opened j (t ∷ rest) t.place so) n
+    ∙ ap (λ (x : Bool). if x then Ok (levels (fresh i t.place) (begun (t ∷ rest) so.level ∷ so.outer)) else Err (refusal.TooNested t.place)) (lt_true (length so.outer) h))
     ∙ ap (λ (l : Level). walk (levels (fresh i t.place) (l ∷ so.outer)) rest) (same so.level (t ∷ rest))
     ∙ ap (λ (l : List Token). walk (levels (fresh i t.place) (having so.level [] (or_first so.level.first l) ∷ so.outer)) rest) (sym is)
   where
     all : (is : List Item) → is ≡ is ++ []
     all [] = refl
     all (x ∷ xs) = ap (λ (l : List Item). x ∷ l) (all xs)
+
     same : (l : Level) (tokens : List Token) → begun tokens l ≡ having l [] (or_first l.first tokens)
     same l tokens = ap (λ (items : List Item). record { inside = l.inside; opened = l.opened; first = or_first l.first tokens; items = items; expressions = l.expressions; targets = l.targets; header = l.header; statements = l.statements; done = l.done }) (all l.items)
 
 -- a whole bracket group is one item
 pub group_arrives : (so : Levels) (x : Element) (k : List Sign) (ts rest : List Token) (inner : Levels) (tokens : List Token) → walk so ts ≡ walk inner tokens → walk inner tokens ≡ walk (levels (and_item (Standing x) (having so.level [] (or_first so.level.first ts))) so.outer) rest → Fits k rest → Arrives so (Standing x ∷ []) k ts
 group_arrives so x k ts rest inner tokens e d f = record {
-    rest = rest;
-    first = or_first so.level.first ts;
-    fits = f;
-    began = inl refl;
-    walks = e ∙ d ∙ ap (λ (l : Level). walk (levels l so.outer) rest) (having_twice so.level [] (Standing x ∷ []) (or_first so.level.first ts) (or_first so.level.first ts));
-  }
+  rest = rest;
+  first = or_first so.level.first ts;
+  fits = f;
+  began = inl refl;
+  walks = e ∙ d ∙ ap (λ (l : Level). walk (levels l so.outer) rest) (having_twice so.level [] (Standing x ∷ []) (or_first so.level.first ts) (or_first so.level.first ts));
+}

@@ -47,6 +47,7 @@ list_chosen i h a p e c = go i h a.arrow a.colon p e c
     plain : (b : Bool) → b ≡ false → (if b then inside.Pattern else inside.List) ≡ inside.List
     plain false e = refl
     plain true e = absurd (cc)
+
     go : (i : Inside) (h x y : Bool) → Expressive i → x ≡ false → y ≡ false → list_inside (record { arrow = x; element = a.element; colon = y }) i h ≡ inside.List
     go inside.Program h x y p e c = plain x e
     go inside.Parens h x y p e c = plain x e
@@ -64,6 +65,7 @@ pattern_chosen i h a p e = go i h a.arrow a.colon p e
     plain : (b : Bool) → b ≡ true → (if b then inside.Pattern else inside.List) ≡ inside.Pattern
     plain true e = refl
     plain false e = absurd (cc)
+
     go : (i : Inside) (h x y : Bool) → Expressive i → x ≡ true → list_inside (record { arrow = x; element = a.element; colon = y }) i h ≡ inside.Pattern
     go inside.Program h x y p e = plain x e
     go inside.Parens h x y p e = plain x e
@@ -434,6 +436,7 @@ body_is_start place so_far b = level_is (filled (start place so_far) b) place (s
     expressions_of : (b : BodyTree) → (filled (start place so_far) b).expressions ≡ []
     expressions_of (body None ss) = stating_rest (start place so_far) ss
     expressions_of (body (Some h) ss) = stating_rest (and_header h (start place so_far)) ss
+
     targets_of : (b : BodyTree) → (filled (start place so_far) b).targets ≡ []
     targets_of (body None ss) = stating_targets (start place so_far) ss
     targets_of (body (Some h) ss) = stating_targets (and_header h (start place so_far)) ss
@@ -466,8 +469,8 @@ makes_block place c b bs w = makes_block_from place c [] b bs (and_bodies b bs) 
 semicolon_walks : (last next : Level) (outer : List Level) (t : Token) (ts rest : List Token) → ts ≡ t ∷ rest → sort_of t.kind ≡ Ends → last.inside ≡ inside.Block → ended t.place last ≡ Ok next → walk (levels last outer) ts ≡ walk (levels (and_body next) outer) rest
 semicolon_walks last next outer t ts rest is s i e =
     walk_step (levels last outer) (levels (and_body next) outer) Ends t ts rest is s
-      (ap (λ (j : Inside). semicolon j (t ∷ rest) t.place (levels last outer)) i
-      ∙ ap (λ (r : Result Level Refusal). go_on outer (body_ended r)) e)
+    (ap (λ (j : Inside). semicolon j (t ∷ rest) t.place (levels last outer)) i
+    ∙ ap (λ (r : Result Level Refusal). go_on outer (body_ended r)) e)
 
 after_body_arrows : (bs : Bodies) (k : List Sign) → Arrows false (bodies_more bs (Mark 125 ∷ k))
 after_body_arrows no_bodies k = other_arrows (Closes Curly) 125 k refl tt
@@ -571,9 +574,9 @@ question_is i tokens place so e = ap (λ (j : Inside). question j tokens place s
 question_walks : (l : Level) (in_block : Bool) (e : Expr) (first : Option (List Token)) (outer : List Level) (t : Token) (ts rest : List Token) → ts ≡ t ∷ rest → sort_of t.kind ≡ Asks → Running in_block l.inside → in_block ≡ true → IsValue e → WellExpr e → walk (levels (having (clean l) (expr_items e) first) outer) ts ≡ walk (levels (clean (and_statement (Predicate e) l)) outer) rest
 question_walks l in_block e first outer t ts rest is s r b v w =
     walk_step (levels (having (clean l) (expr_items e) first) outer) (levels (clean (and_statement (Predicate e) l)) outer) Asks t ts rest is s
-      (question_is l.inside (t ∷ rest) t.place (levels (having (clean l) (expr_items e) first) outer) (block_running in_block l.inside r b)
-      ∙ ap (λ (x : Result Level Refusal). go_on outer x) (asked_some (expr_items e) t.place (having (clean l) (expr_items e) first) (items_are_some e w))
-      ∙ ap (λ (o : Option Stmt). go_on outer (well t.place and_statement o (having (clean l) (expr_items e) first))) (predicate_found e v w))
+    (question_is l.inside (t ∷ rest) t.place (levels (having (clean l) (expr_items e) first) outer) (block_running in_block l.inside r b)
+    ∙ ap (λ (x : Result Level Refusal). go_on outer x) (asked_some (expr_items e) t.place (having (clean l) (expr_items e) first) (items_are_some e w))
+    ∙ ap (λ (o : Option Stmt). go_on outer (well t.place and_statement o (having (clean l) (expr_items e) first))) (predicate_found e v w))
 
 mutual
   pub part_arrives : (x : Part) (so : Levels) (k : List Sign) (ts : List Token) → WellPart x → Expressive so.level.inside → length so.outer + part_depth x ≤ 128 → Follows x k → Colons false k → Fits (part_signs x k) ts → Arrives so (part_items x) k ts
@@ -582,7 +585,7 @@ mutual
       let m = mark_is f in
       let n = behind_opening Angle 10217 k m.1 refl (then_cross (crosses_gap (exprs_signs es (Gap ∷ Mark 10217 ∷ k)) m.1 m.4) (λ rest g. exprs_crosses es (Mark 10217 ∷ k) rest w g)) in
       let o = open_step Angle so m.0 ts m.1 inside.List m.2 (mark_sort m.0 10216 (Opens Angle) m.3 refl) (omega arith)
-                (list_chosen so.level.inside (is_first_piece so.level.header so.level.statements) (behind_group m.1) e (ap (λ (b : Ahead). b.arrow) n.2 ∙ a n.0 n.1) (ap (λ (b : Ahead). b.colon) n.2 ∙ y n.0 n.1)) in
+      (list_chosen so.level.inside (is_first_piece so.level.header so.level.statements) (behind_group m.1) e (ap (λ (b : Ahead). b.arrow) n.2 ∙ a n.0 n.1) (ap (λ (b : Ahead). b.colon) n.2 ∙ y n.0 n.1)) in
       let around = having so.level [] (or_first so.level.first ts) in
       let g = gap_walks (fresh inside.List m.0.place) (around ∷ so.outer) (exprs_signs es (Gap ∷ Mark 10217 ∷ k)) m.1 tt m.4 in
       let r = exprs_arrive es Angle 10217 (fresh inside.List m.0.place) around (OfPart (Elements es)) so.outer k g.0 refl refl tt w (omega arith) (makes_elements m.0.place es) g.1 in
@@ -609,7 +612,7 @@ mutual
   part_arrives (Block b) so k ts w e d a y f = block_arrives b so k ts w d f
   part_arrives (Field x names) so k ts w e d a y f =
       and_then (part_arrives x so (name_signs names k) ts w.2 e d (calm_follows x (name_signs names k) (name_arrows names k w.1)) (names_colons false names k (names_stand names w.1) y) f)
-        (λ first rest g. names_arrive names (levels (having so.level (part_items x) first) so.outer) k rest (names_stand names w.1) g)
+      (λ first rest g. names_arrive names (levels (having so.level (part_items x) first) so.outer) k rest (names_stand names w.1) g)
   part_arrives (Strand ps) so k ts w e d a y f = parts_arrive ps so k ts w.1 e d a y f
   part_arrives (Nothing place) so k ts w e d a y f = take_exact so Skips (part_item (Nothing place)) (mark_at 183 place) k ts refl (λ b rest. refl) f
 
@@ -617,7 +620,7 @@ mutual
   parts_arrive no_parts so k ts w e d a y f = nothing_more so k ts f
   parts_arrive (and_parts x xs) so k ts w e d a y f =
       and_then (part_arrives x so (parts_more xs k) ts w.1 e (omega (arith, le-max_left (part_depth x) (parts_depth xs))) (calm_follows x (parts_more xs k) (parts_arrows xs k w.2 a)) (parts_more_colons false xs k w.2 y) f)
-        (λ first rest g. parts_more_arrive xs (levels (having so.level (part_items x) first) so.outer) k rest w.2 e (omega (arith, le-max_right (part_depth x) (parts_depth xs))) a y g)
+      (λ first rest g. parts_more_arrive xs (levels (having so.level (part_items x) first) so.outer) k rest w.2 e (omega (arith, le-max_right (part_depth x) (parts_depth xs))) a y g)
 
   parts_more_arrive : (ps : Parts) (so : Levels) (k : List Sign) (ts : List Token) → WellParts ps → Expressive so.level.inside → length so.outer + parts_depth ps ≤ 128 → Arrows false k → Colons false k → Fits (parts_more ps k) ts → Arrives so (parts_more_items ps) k ts
   parts_more_arrive no_parts so k ts w e d a y f = nothing_more so k ts f
@@ -670,7 +673,7 @@ mutual
       uses_arrive us (levels (having so.level (part_items m) first) so.outer) k rest w.1 e (omega (arith, le-max_right (part_depth m) (uses_depth us))) (rest_follow_one m us k a) y g)
   uses_arrive (and_uses (Two m x) us) so k ts w e d a y f =
       and_then (and_then (part_arrives m so (part_signs x (uses_signs us k)) ts w.0.0 e (omega (arith, le-max_left (max (part_depth m) (part_depth x)) (uses_depth us), le-max_left (part_depth m) (part_depth x))) (calm_follows m (part_signs x (uses_signs us k)) (part_arrows x (uses_signs us k) w.0.1)) (part_colons false x (uses_signs us k) w.0.1 (uses_colons false us k w.1 y)) f) (λ first rest g.
-        part_arrives x (levels (having so.level (part_items m) first) so.outer) (uses_signs us k) rest w.0.1 e (omega (arith, le-max_left (max (part_depth m) (part_depth x)) (uses_depth us), le-max_right (part_depth m) (part_depth x))) (two_follows m x us k w.1 a) (uses_colons false us k w.1 y) g)) (λ second more h.
+      part_arrives x (levels (having so.level (part_items m) first) so.outer) (uses_signs us k) rest w.0.1 e (omega (arith, le-max_left (max (part_depth m) (part_depth x)) (uses_depth us), le-max_right (part_depth m) (part_depth x))) (two_follows m x us k w.1 a) (uses_colons false us k w.1 y) g)) (λ second more h.
       uses_arrive us (levels (having so.level (part_items m ++ part_items x) second) so.outer) k more w.1 e (omega (arith, le-max_right (max (part_depth m) (part_depth x)) (uses_depth us))) (rest_follow_two m x us k a) y h)
 
   deriveds_arrive : (ds : Deriveds) (so : Levels) (k : List Sign) (ts : List Token) → WellDeriveds ds → Expressive so.level.inside → length so.outer + deriveds_depth ds ≤ 128 → Arrows false k → Colons false k → Fits (deriveds_signs ds k) ts → Arrives so (deriveds_items ds) k ts
