@@ -4,6 +4,8 @@ use bqn_io::{MemoryFiles, MemorySink, MemorySource};
 use std::alloc::{AllocError, Global};
 use std::test::Fail;
 
+mod grammar;
+
 /// Words of a command line that are split at spaces.
 fn words_of(alloc: Global, line: &str) -> Result<Vec<String>, AllocError> {
     let mut words = Vec::new(alloc);
