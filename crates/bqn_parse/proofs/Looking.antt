@@ -1,5 +1,5 @@
 -- The pass from the right, token by token.
-use Rattle.std.proofs.Common.{◌≡◌, ◌≤◌, ◌<◌, ◌+◌, ℕ, false, zero, suc, List, [], ◌∷◌, ◌++◌, Option, Some, None, length, drop, get_or, drop-cons, refl, sym, ap, ◌∙◌, add-one, arith, reverse, map}
+use Rattle.std.proofs.Common.{◌≡◌, ◌≤◌, ◌+◌, ℕ, false, suc, List, [], ◌∷◌, ◌++◌, length, drop, get_or, drop-cons, sym, ap, ◌∙◌, arith, reverse, map}
 use Rattle.std.proofs.Math.ListN.{drop_of_length-le}
 use Rattle.std.proofs.lemmas.List.{reverse-append}
 use Rattle.bqn_syntax.specs.declared.token.Token.{Token}

@@ -1,6 +1,6 @@
 -- What occurs in statements, one after another.
-use Rattle.std.proofs.Common.{◌≡◌, ◌+◌, ◌<◌, ◌≤◌, ℕ, length, drop, get_or, drop-cons, add-one, zero, suc, Bool, true, false, List, [], ◌∷◌, map, refl, sym, ap, ◌∙◌, arith}
-use Rattle.std.specs.Prelude.{◌||◌, nat_le, if◌then◌else◌}
+use Rattle.std.proofs.Common.{◌≡◌, ◌+◌, ◌<◌, ◌≤◌, ℕ, length, drop, get_or, drop-cons, add-one, suc, Bool, true, false, List, ◌∷◌, map, refl, sym, ap, ◌∙◌, arith}
+use Rattle.std.specs.Prelude.{◌||◌}
 use Rattle.std.proofs.Math.ListN.{drop_of_length-le}
 use Rattle.bqn_syntax.specs.declared.tree.Stmt.{Stmt as CodeStmt}
 use Rattle.bqn_syntax.specs.Plain.{stmt_of, stmts, Stmt, Eval, Predicate, Export, Stmts, no_stmts, and_stmts}

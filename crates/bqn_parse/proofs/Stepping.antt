@@ -1,9 +1,8 @@
 -- One token of a walk.
-use Rattle.std.proofs.Common.{◌≡◌, ◌<◌, ◌≤◌, ◌+◌, ◌-◌, ℕ, suc, zero, Bool, true, false, List, [], ◌∷◌, ◌++◌, Option, Some, None, Result, Ok, Err, length, drop, take, get_or, drop-cons, add-one, map, reverse, refl, sym, ap, ◌∙◌, arith, length-drop}
-use Rattle.std.proofs.lemmas.List.{map-append, reverse-append, length-reverse}
+use Rattle.std.proofs.Common.{◌≡◌, ◌<◌, ◌≤◌, ◌-◌, ℕ, suc, Bool, true, List, [], ◌∷◌, ◌++◌, Some, Result, Ok, Err, length, drop, take, map, reverse, refl, ap, ◌∙◌, arith, length-drop}
+use Rattle.std.proofs.lemmas.List.{reverse-append, length-reverse}
 use Rattle.bqn_base.specs.declared.place.Place.{Place}
 use Rattle.bqn_base.specs.declared.refusal.Refusal.{Refusal}
-use Rattle.bqn_base.specs.declared.refusal.Refusal.TheVariants as refusal
 use Rattle.bqn_syntax.specs.declared.token.Token.{Token}
 use Rattle.bqn_syntax.specs.declared.sort.Inside.{Inside}
 use Rattle.bqn_syntax.specs.declared.sort.Inside.TheVariants as inside
@@ -12,7 +11,7 @@ use Rattle.bqn_syntax.specs.Parsing as parsing
 use Rattle.bqn_parse.specs.declared.error.ParseError.{ParseError}
 use Rattle.bqn_parse.specs.declared.error.ParseError.TheVariants.{Refused, Memory}
 use Rattle.bqn_parse.specs.declared.level.Level.{Level}
-use Rattle.bqn_parse.specs.Walking.{from_first, level_shown, Moves}
+use Rattle.bqn_parse.specs.Walking.{level_shown, Moves}
 
 -- what the innermost level answers, the walk does
 pub goes-on : {X : Type 0} (outer : List parsing.Level) (answer : Result parsing.Level Refusal) (new : parsing.Level) (result : Result X ParseError) → Moves answer new result → Moves (parsing.go_on outer answer) (parsing.levels new outer) result

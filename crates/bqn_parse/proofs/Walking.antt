@@ -1,17 +1,13 @@
 -- The steps of a walk.
-use Rattle.std.proofs.Common.{◌≡◌, ◌+◌, ◌<◌, ◌≤◌, ℕ, suc, Bool, true, false, List, [], ◌∷◌, ◌++◌, Option, Some, None, Result, Ok, Err, length, drop, take, get_or, drop-cons, add-one, map, reverse, refl, sym, ap, ◌∙◌, arith, subst}
-use Rattle.std.specs.Option.{option_map}
+use Rattle.std.proofs.Common.{◌≡◌, ◌<◌, ◌≤◌, ℕ, List, [], ◌∷◌, ◌++◌, Option, Some, Result, Ok, length, drop, get_or, drop-cons, map, refl, sym, ap, ◌∙◌, arith, subst}
 use Rattle.std.proofs.Math.ListN.{drop_of_length-le}
-use Rattle.std.proofs.lemmas.List.{map-append, append-nil, reverse-append}
+use Rattle.std.proofs.lemmas.List.{map-append}
 use Rattle.bqn_base.specs.declared.place.Place.{Place}
-use Rattle.bqn_base.specs.declared.refusal.Refusal.{Refusal}
 use Rattle.bqn_syntax.specs.declared.token.Token.{Token}
 use Rattle.bqn_syntax.specs.Items.{Item}
 use Rattle.bqn_syntax.specs.Expressions.{piece_predicate}
 use Rattle.bqn_syntax.specs.Parsing as parsing
-use Rattle.bqn_parse.specs.declared.level.Level.{Level}
-use Rattle.bqn_parse.specs.declared.level.Walk.{Walk}
-use Rattle.bqn_parse.specs.Walking.{from_first, level_shown, walk_shown, Moves}
+use Rattle.bqn_parse.specs.Walking.{Moves}
 use Rattle.bqn_parse.specs.declared.error.ParseError.{ParseError}
 
 pub map-snoc : {A B : Type 0} (f : A → B) (xs : List A) (x : A) → map f (xs ++ x ∷ []) ≡ map f xs ++ f x ∷ []

@@ -1,5 +1,5 @@
 -- What the marks of statements and bodies show.
-use Rattle.std.specs.Prelude.{ℕ, nat_le, if◌then◌else◌, Option, None}
+use Rattle.std.specs.Prelude.{ℕ, nat_le, if◌then◌else◌, None}
 use Rattle.std.specs.Option.{option_map}
 use Rattle.bqn_syntax.specs.Plain.{Header, Skip}
 use Rattle.bqn_syntax.specs.Classes as classes

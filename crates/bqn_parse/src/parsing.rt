@@ -33,6 +33,7 @@ fn finish(alloc: Global, tokens: &[Token], walk: &mut Walk) -> Result<Tree, Pars
     })
 }
 
+/// What stands behind the bracket of the token with this index.
 fn ahead_at(behind: &[Ahead], index: usize) -> Ahead
     requires { index < length behind.now }
     ensures { result ≡ slice_index_or behind.now index result }

@@ -1,4 +1,4 @@
-use Rattle.std.proofs.Common.{◌≡◌, ◌∙◌, List, map, ap, sym, Ok}
+use Rattle.std.proofs.Common.{◌≡◌, ◌∙◌, List, map, ap, Ok}
 use Rattle.bqn_syntax.specs.Classes as classes
 use Rattle.bqn_syntax.specs.Plain.{body_of, bodies}
 use Rattle.bqn_headers.specs.declared.class.BodyMarks.{BodyMarks}

@@ -10,6 +10,6 @@ returns c =
     let tokens = c.args.tokens.now in
     let so = walk_shown tokens c.args.walk.now in
     let new = walk_shown tokens c.hand.new.walk in
-    let e : true ≡ parsing.closes c.args.bracket c.args.walk.now.level.inside = cc (c.if-not-closes.ensures, c.closes.ensures) in
+    let e : true ≡ parsing.closes c.args.bracket c.args.walk.now.level.inside = cc (c.if-not-closes.ensures) in
     subst (λ (b : Bool). Moves (parsing.closed b c.args.place so) new c.hand.result) e
     (subst (λ (x : Result Element Refusal). Moves (parsing.handed c.args.place x so.outer) new c.hand.result) (sym c.in_ok-element.ensures) (c.hand.ensures tokens))

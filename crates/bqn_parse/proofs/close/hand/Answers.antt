@@ -1,4 +1,4 @@
-use Rattle.std.proofs.Common.{◌≡◌, List, ◌++◌, ◌∷◌, [], ◌∙◌, map, reverse, ap, sym, rules, Ok}
+use Rattle.std.proofs.Common.{◌≡◌, ◌++◌, ◌∷◌, [], ◌∙◌, map, reverse, ap, sym, rules, Ok}
 use Rattle.bqn_syntax.specs.Parsing as parsing
 use Rattle.bqn_parse.specs.Views.{element_of}
 use Rattle.bqn_parse.specs.Walking.{level_shown}

@@ -15,5 +15,5 @@ returns c =
     let tokens = c.args.tokens.now in
     let l = level_shown tokens c.args.level.now in
     let some : 0 < length (items_of c.args.level.now.items.items) = grind (arith, common_steps) in
-    let first : parsing.is_first_piece (option_map header_of c.args.level.now.header) (map stmt_of c.args.level.now.statements.items) ≡ true = cc (c.if-not-is_first_piece.ensures, c.is_first_piece.ensures) in
+    let first : parsing.is_first_piece (option_map header_of c.args.level.now.header) (map stmt_of c.args.level.now.statements.items) ≡ true = cc (c.if-not-is_first_piece.ensures) in
     subst (λ (a : Result parsing.Level Refusal). Moves a (level_shown tokens c.head.new.level) c.head.result) (sym (headed-first l.items (drop c.args.index tokens) c.args.place l some first)) c.head.ensures

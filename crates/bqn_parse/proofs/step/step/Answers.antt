@@ -1,4 +1,4 @@
-use Rattle.std.proofs.Common.{◌∙◌, ap, drop, sym, subst}
+use Rattle.std.proofs.Common.{◌∙◌, ap, drop, subst}
 use Rattle.bqn_syntax.specs.declared.sort.Inside.{Inside}
 use Rattle.bqn_syntax.specs.declared.sort.Sort.{Sort}
 use Rattle.bqn_syntax.specs.Items.{Standing, OfPart}

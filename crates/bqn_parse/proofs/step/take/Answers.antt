@@ -1,4 +1,4 @@
-use Rattle.std.proofs.Common.{◌∙◌, drop, map, reverse, ap, sym, Ok}
+use Rattle.std.proofs.Common.{◌∙◌, map, reverse, ap, sym, Ok}
 use Rattle.bqn_syntax.specs.Parsing as parsing
 use Rattle.bqn_parse.specs.Views.{item_of}
 use Rattle.bqn_parse.specs.Walking.{level_shown}
