@@ -1,5 +1,5 @@
 -- Modifiers are bound term by term.
-use Rattle.std.proofs.Common.{◌≡◌, List, [], ◌∷◌, Option, Some, None, sym, ap}
+use Rattle.std.proofs.Common.{◌≡◌, List, ◌∷◌, Option, Some, None, sym, ap}
 use Rattle.std.specs.Option.{option_and_then}
 use Rattle.bqn_syntax.specs.Items.{Term}
 use Rattle.bqn_syntax.specs.Units.{Unit', Row, bind, binds, bound}

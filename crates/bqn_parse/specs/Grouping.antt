@@ -1,8 +1,7 @@
 -- What the units so far stand for, while modifiers are bound.
-use Rattle.std.specs.Prelude.{List, map}
+use Rattle.std.specs.Prelude.{map}
 use Rattle.bqn_syntax.specs.Plain.{part_of, use_of}
 use Rattle.bqn_syntax.specs.Units as units
-use Rattle.bqn_parse.specs.declared.unit.Unit.{Unit}
 use Rattle.bqn_parse.specs.declared.units.Binding.{Binding}
 use Rattle.bqn_parse.specs.declared.units.Binding.TheVariants as binding
 use Rattle.bqn_parse.specs.declared.units.Grouping.{Grouping}
