@@ -30,9 +30,6 @@ module _ {A : Type 0} where
   pub place-spelled : (name : List ℕ) (keys : List (Vec ℕ A)) → place_of (spelled keys) name ≡ position (same name) keys
   place-spelled name keys = λ i. cond (nat_lt (first-spelled name keys i) (length-spelled keys i)) (Some (first-spelled name keys i)) None
 
-  pub added-held : (name : List ℕ) (names : List (List ℕ)) (keys : List (Vec ℕ A)) (place : ℕ) → names ≡ spelled keys → position (same name) keys ≡ Some place → added names name ≡ with_place names (Some place)
-  added-held name names keys place v e = ap (λ (p : Option ℕ). added_unless_held names name p) (ap (λ (ns : List (List ℕ)). place_of ns name) v ∙ place-spelled name keys ∙ e)
-
   pub added-full : (name : List ℕ) (names : List (List ℕ)) (keys : List (Vec ℕ A)) → names ≡ spelled keys → position (same name) keys ≡ None → 65535 ≤ length keys → added names name ≡ with_place names None
   added-full name names keys v e full =
       ap (λ (p : Option ℕ). added_unless_held names name p) (ap (λ (ns : List (List ℕ)). place_of ns name) v ∙ place-spelled name keys ∙ e)

@@ -25,9 +25,13 @@ pub record Added : Type 0 where
 abbrev pub with_place : List (List ℕ) → Option ℕ → Added
 with_place names place = record { names = names; place = place }
 
+-- a name goes to the end
+abbrev pub grown : List (List ℕ) → List ℕ → Added
+grown names name = with_place (names ++ name ∷ []) (Some (length names))
+
 -- a new name goes to the end, where there are fewer than 65,535 names
 abbrev pub appended : List (List ℕ) → List ℕ → Added
-appended names name = if nat_lt (length names) 65535 then with_place (names ++ name ∷ []) (Some (length names)) else with_place names None
+appended names name = if nat_lt (length names) 65535 then grown names name else with_place names None
 
 abbrev pub added_unless_held : List (List ℕ) → List ℕ → Option ℕ → Added
 added_unless_held names name (Some place) = with_place names (Some place)
@@ -42,3 +46,9 @@ abbrev pub Adds : List (List ℕ) → List ℕ → List (List ℕ) → Result �
 Adds old name new (Ok place) = added old name ≡ with_place new (Some place)
 Adds old name new (Err Full) = added old name ≡ with_place new None
 Adds old name new (Err Memory) = new ≡ old
+
+-- memory is wanting only for a name that goes to the end
+abbrev pub TakesMemory : List (List ℕ) → List ℕ → Result ℕ NamesError → Type 0
+TakesMemory old name (Ok place) = Unit {0}
+TakesMemory old name (Err Full) = Unit {0}
+TakesMemory old name (Err Memory) = added old name ≡ grown old name

@@ -3,7 +3,7 @@
 ghost use Rattle.std.specs.Prelude.{◌≡◌, ◌≤◌, [], length, nat_eq};
 ghost use Rattle.std.specs.List.{IsDistinct};
 ghost use Rattle.std.specs.Cmp.Lexicographic.{pointwise};
-ghost use Rattle.bqn_scope.specs.Names.{Adds, place_of};
+ghost use Rattle.bqn_scope.specs.Names.{Adds, TakesMemory, place_of};
 
 use bqn_base::Name;
 use indexmap::IndexSet;
@@ -68,7 +68,8 @@ impl Names {
     /// The place of a name, which goes to the end of the list unless the list holds it.
     #[tactic(auto, using(crate::proofs::Spelling::name_laws))]
     pub fn add(&mut self, name: &Name) -> Result<u16, NamesError>
-        ensures { Adds self.old name.now self.new result }
+        ensures added { Adds self.old name.now self.new result }
+        ensures memory { TakesMemory self.old name.now result }
     {
         if let Some(place) = self.spellings.get_index_of(name.chars()) {
             return Ok(place as u16);

@@ -4,15 +4,15 @@ use Rattle.bqn_scope.specs.Names.{with_place, spelled}
 use Rattle.bqn_scope.proofs.Spelling.{same, added-full, added-new}
 use Rattle.bqn_scope.proofs.names.Names.add.Goals as goal
 
-pub returns-then-place-ge-MOST : goal.returns-then-place-ge-MOST
-returns-then-place-ge-MOST c =
+pub returns-then-place-ge-MOST-clause-added : goal.returns-then-place-ge-MOST-clause-added
+returns-then-place-ge-MOST-clause-added c =
     let keys = c.self.inside.spellings.keys in
     let name : c.chars.result.now ≡ c.args.name.now = c.chars.ensures.value in
     let place : position (same c.args.name.now) keys ≡ None = ap (λ (n : List ℕ). position (same n) keys) (sym name) ∙ sym c.in_default.ensures.index in
     added-full c.args.name.now c.args.self.now keys (sym c.self.view_is) place (omega arith)
 
-pub returns : goal.returns
-returns c =
+pub returns-clause-added : goal.returns-clause-added
+returns-clause-added c =
     let keys = c.self.inside.spellings.keys in
     let name : c.chars.result.now ≡ c.args.name.now = c.chars.ensures.value in
     let place : position (same c.args.name.now) keys ≡ None = ap (λ (n : List ℕ). position (same n) keys) (sym name) ∙ sym c.in_default.ensures.index in
