@@ -1,0 +1,89 @@
+//! A list of names without repeats.
+
+ghost use Rattle.std.specs.Prelude.{◌≡◌, ◌≤◌, [], length, nat_eq};
+ghost use Rattle.std.specs.List.{IsDistinct};
+ghost use Rattle.std.specs.Cmp.Lexicographic.{pointwise};
+ghost use Rattle.bqn_scope.specs.Names.{Adds, TakesMemory, place_of};
+
+use bqn_base::Name;
+use indexmap::IndexSet;
+use std::alloc::Global;
+use std::marker::Model;
+
+/// Why a name is not added: the list is full, or memory is wanting.
+#[derive(Clone, Copy, Debug, PartialEq, Eq)]
+pub enum NamesError {
+    Full,
+    Memory,
+}
+
+/// The most names that a list holds. The last of them has the place 65,534.
+const MOST: usize = 65535;
+
+/// A list of at most 65,535 names without repeats, in the order in which they were added.
+#[derive(Drop)]
+pub struct Names {
+    alloc: Global,
+    spellings: IndexSet<Vec<char>>,
+}
+
+impl Model for Names {
+    ghost use Rattle.std.specs.Prelude.{List, ℕ, ◌≤◌, length};
+    ghost use Rattle.std.specs.Coded.{coded_list, coded_ℕ};
+    ghost use Rattle.bqn_scope.specs.Names.{AreDistinct, spelled};
+
+    ghost Value = { List (List ℕ) };
+
+    ghost coded = { coded_list (coded_list coded_ℕ) };
+
+    ghost view = { λ names. spelled names.spellings.keys };
+
+    ghost invariant = { λ names. (length names.spellings.keys ≤ 65535) × AreDistinct names.spellings.keys };
+}
+
+impl Names {
+    /// No names.
+    pub fn new(alloc: Global) -> Names
+        ensures { result ≡ [] }
+    {
+        Names {
+            alloc,
+            spellings: IndexSet::new(alloc),
+        }
+    }
+
+    /// The place of a name, if the list holds it.
+    #[tactic(auto, using(crate::proofs::Spelling::name_laws))]
+    pub fn position(&self, name: &Name) -> Option<u16>
+        ensures value { result ≡ place_of self.now name.now }
+        ensures room { length self.now ≤ 65535 }
+        ensures distinct { IsDistinct (pointwise nat_eq) self.now }
+    {
+        match self.spellings.get_index_of(name.chars()) {
+            Some(place) => Some(place as u16),
+            None => None,
+        }
+    }
+
+    /// The place of a name, which goes to the end of the list unless the list holds it.
+    #[tactic(auto, using(crate::proofs::Spelling::name_laws))]
+    pub fn add(&mut self, name: &Name) -> Result<u16, NamesError>
+        ensures added { Adds self.old name.now self.new result }
+        ensures memory { TakesMemory self.old name.now result }
+    {
+        if let Some(place) = self.spellings.get_index_of(name.chars()) {
+            return Ok(place as u16);
+        }
+        let place = self.spellings.len();
+        if place >= MOST {
+            return Err(NamesError::Full);
+        }
+        let Ok(spelling) = Vec::from_slice(self.alloc, name.chars()) else {
+            return Err(NamesError::Memory);
+        };
+        let Ok(_) = self.spellings.insert_full(spelling) else {
+            return Err(NamesError::Memory);
+        };
+        Ok(place as u16)
+    }
+}
