@@ -1,5 +1,5 @@
 -- A walk over tokens, token by token.
-use Rattle.std.proofs.Common.{◌≡◌, ◌<◌, ◌≤◌, ◌+◌, ℕ, suc, zero, List, [], ◌∷◌, Result, Ok, Err, length, drop, get_or, drop-cons, add-one, map, reverse, refl, sym, ap, ◌∙◌, arith}
+use Rattle.std.proofs.Common.{◌≡◌, ◌<◌, ◌≤◌, ◌+◌, ℕ, suc, zero, List, [], ◌∷◌, Result, Ok, Err, length, drop, get_or, drop-cons, add-one, map, reverse, refl, subst, sym, ap, ◌∙◌, arith}
 use Rattle.std.proofs.Math.ListN.{drop_of_length-le}
 use Rattle.bqn_base.specs.declared.refusal.Refusal.{Refusal}
 use Rattle.bqn_base.specs.declared.refusal.Refusal.TheVariants as refusal
@@ -8,13 +8,16 @@ use Rattle.bqn_syntax.specs.Sorts.{sort_of}
 use Rattle.bqn_syntax.specs.Brackets.{partners_of}
 use Rattle.bqn_syntax.specs.Looks as plain
 use Rattle.bqn_syntax.specs.Parsing as parsing
-use Rattle.bqn_syntax.specs.Plain.{Stmts, stmts}
+use Rattle.std.specs.Prelude.{IfOk}
+use Rattle.bqn_syntax.specs.declared.tree.Tree.{Tree}
+use Rattle.bqn_syntax.specs.Grammar.{WellTreesAreFound, OnlyWellTreesAreFound, WellSpelled}
+use Rattle.bqn_syntax.specs.Plain.{Stmts, stmts, tree_of}
 use Rattle.bqn_parse.specs.declared.looks.Ahead.{Ahead}
 use Rattle.bqn_parse.specs.declared.level.Level.{Level}
 use Rattle.bqn_parse.specs.Looking.{ahead_shown, aheads_of}
 use Rattle.bqn_parse.specs.declared.error.ParseError.{ParseError}
 use Rattle.bqn_parse.specs.declared.error.ParseError.TheVariants.{Refused, Memory}
-use Rattle.bqn_parse.specs.Views.{Gives}
+use Rattle.bqn_parse.specs.Views.{Finds, Gives}
 use Rattle.bqn_parse.specs.Walking.{level_shown, start, Moves}
 use Rattle.bqn_parse.proofs.Stepping.{length-outer}
 
@@ -138,3 +141,14 @@ pub parsed-refused : (tokens : List Token) (r : Refusal) → partners_of tokens 
 parsed-refused tokens r e = parsed-by tokens ∙ ap (λ (answer : Result (List ℕ) Refusal). parsed_by answer tokens) e
 
 pub ruleset parse_laws = (parsed-walk, parsed-refused)
+
+-- What the laws of the grammar say of the tree that is given.
+
+pub finds : (tokens : List Token) (result : Result Tree ParseError) → WellTreesAreFound → Gives (parsing.parsed tokens) result → Finds tokens result
+finds tokens result found gives = λ ss well spells. subst (λ (a : Result Stmts Refusal). Gives a result) (found ss tokens well spells) gives
+
+pub only-well : (tokens : List Token) (result : Result Tree ParseError) → OnlyWellTreesAreFound → Gives (parsing.parsed tokens) result → IfOk result (λ tree. WellSpelled (tree_of tree) tokens)
+only-well tokens (Ok tree) only gives = only (tree_of tree) tokens gives
+only-well tokens (Err e) only gives = tt
+
+pub ruleset law_laws = (finds, only-well)

@@ -2,10 +2,13 @@
 use Rattle.std.specs.Prelude.{◌≡◌, List, [], ◌∷◌, map, reverse, Option, Some, None, Result, Ok, Err}
 use Rattle.std.specs.Option.{option_map}
 use Rattle.bqn_base.specs.declared.refusal.Refusal.{Refusal}
+use Rattle.bqn_syntax.specs.declared.token.Token.{Token}
 use Rattle.bqn_syntax.specs.declared.tree.Tree.{Tree}
 use Rattle.bqn_syntax.specs.Items as items
 use Rattle.bqn_syntax.specs.Units as units
 use Rattle.bqn_syntax.specs.Plain.{part_of, pattern_of, derived_of, Stmts, tree_of}
+use Rattle.bqn_syntax.specs.Spells.{Spells}
+use Rattle.bqn_syntax.specs.Well.{Well}
 use Rattle.bqn_parse.specs.declared.item.Element.{Element}
 use Rattle.bqn_parse.specs.declared.item.Element.TheVariants as element
 use Rattle.bqn_parse.specs.declared.item.Item.{Item}
@@ -61,3 +64,7 @@ abbrev pub Gives : Result Stmts Refusal → Result Tree ParseError → Type 0
 Gives answer (Ok tree) = answer ≡ Ok (tree_of tree)
 Gives answer (Err (Refused r)) = answer ≡ Err r
 Gives answer (Err Memory) = Unit {0}
+
+-- each well tree that the tokens spell is the one that is given
+abbrev pub Finds : List Token → Result Tree ParseError → Type 0
+Finds tokens result = (ss : Stmts) → Well ss → Spells ss tokens → Gives (Ok ss) result

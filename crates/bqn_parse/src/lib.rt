@@ -8,7 +8,6 @@ mod error;
 mod expression;
 mod item;
 mod judge;
-mod laws;
 mod level;
 mod looks;
 mod marks;
@@ -29,5 +28,4 @@ mod unit;
 mod units;
 
 pub use error::ParseError;
-pub use laws::{only_well_trees_are_found, trees_are_unique, well_trees_are_found};
 pub use parsing::parse;

@@ -1,7 +1,9 @@
-ghost use Rattle.std.specs.Prelude.{◌≡◌, ◌≤◌, ◌<◌, ◌^◌, length, map, slice_index_or};
+ghost use Rattle.std.specs.Prelude.{◌≡◌, ◌≤◌, ◌<◌, ◌^◌, IfOk, length, map, slice_index_or};
+ghost use Rattle.bqn_syntax.specs.Grammar.{WellSpelled};
 ghost use Rattle.bqn_syntax.specs.Parsing.{ended, nowhere, parsed, program_of, walk};
 ghost use Rattle.bqn_parse.specs.Looking.{ahead_shown, aheads_of};
-ghost use Rattle.bqn_parse.specs.Views.{Gives};
+ghost use Rattle.bqn_syntax.specs.Plain.{tree_of};
+ghost use Rattle.bqn_parse.specs.Views.{Finds, Gives};
 ghost use Rattle.bqn_parse.specs.Walking.{start, walk_shown};
 
 use crate::error::ParseError;
@@ -10,6 +12,7 @@ use crate::level::{Level, Walk};
 use crate::looks::{Ahead, aheads};
 use crate::step::step;
 use bqn_base::{Place, Refusal, Row};
+use bqn_grammar::{only_well_trees_are_found, well_trees_are_found};
 use bqn_roles::{NestError, nest};
 use bqn_syntax::{Inside, Token, Tree};
 use std::alloc::Global;
@@ -62,10 +65,9 @@ fn walk(alloc: Global, tokens: &[Token], behind: &[Ahead]) -> Result<Tree, Parse
     finish(alloc, tokens, &mut walk)
 }
 
-/// The tree of a token list, or its one refusal: Bracket or TooNested, and else that of the piece
-/// or block which is decided first.
+/// What the walk gives, behind the scan of the brackets.
 #[tactic(auto, using(crate::proofs::Parsed::parse_laws))]
-pub fn parse(alloc: Global, tokens: &[Token]) -> Result<Tree, ParseError>
+fn tree(alloc: Global, tokens: &[Token]) -> Result<Tree, ParseError>
     requires { length tokens.now ≤ 2 ^ 28 }
     ensures { Gives (parsed tokens.now) result }
 {
@@ -77,4 +79,18 @@ pub fn parse(alloc: Global, tokens: &[Token]) -> Result<Tree, ParseError>
         Err(NestError::Refused(refusal)) => Err(ParseError::Refused(refusal)),
         Err(NestError::Memory) => Err(ParseError::Memory),
     }
+}
+
+/// The tree of a token list, or its one refusal: Bracket or TooNested, and else that of the piece
+/// or block which is decided first. Each well tree that the tokens spell is found, and only such.
+#[tactic(auto, using(crate::proofs::Parsed::law_laws))]
+pub fn parse(alloc: Global, tokens: &[Token]) -> Result<Tree, ParseError>
+    requires { length tokens.now ≤ 2 ^ 28 }
+    ensures exact { Gives (parsed tokens.now) result }
+    ensures found { Finds tokens.now result }
+    ensures only { IfOk result (λ tree. WellSpelled (tree_of tree) tokens.now) }
+{
+    well_trees_are_found();
+    only_well_trees_are_found();
+    tree(alloc, tokens)
 }

@@ -4,3 +4,4 @@ mod Samples
 mod TokenSamples
 mod GrammarSamples
 mod BracketSamples
+mod ScopeSamples

@@ -21,3 +21,7 @@ pub mod Parsing
 pub mod Spells
 pub mod Well
 pub mod Grammar
+pub mod Order
+pub mod Mentions
+pub mod Scope
+pub mod Bodies

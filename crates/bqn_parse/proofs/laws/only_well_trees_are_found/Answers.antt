@@ -1,5 +1,0 @@
-use Rattle.bqn_parse.proofs.laws.only_well_trees_are_found.Goals as goal
-use Rattle.bqn_parse.proofs.Only.{only_well_trees_are_found}
-
-pub returns : goal.returns
-returns c = only_well_trees_are_found
