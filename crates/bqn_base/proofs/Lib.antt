@@ -1,2 +1,4 @@
 pub mod Fits
 mod Samples
+mod ValueSamples
+mod CallSamples
