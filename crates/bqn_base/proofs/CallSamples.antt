@@ -1,13 +1,12 @@
 -- Worked rows of arithmetic and comparison on atoms, and of calls, computed.
-use Rattle.std.proofs.Common.{◌≡◌, ℕ, zero, suc, ℤ, pos, negsuc, Bool, true, false, Option, Some, None, Ok, Err, refl, List, [], ◌∷◌, ◌++◌, length}
+use Rattle.std.proofs.Common.{◌≡◌, ℕ, pos, negsuc, Some, None, Ok, Err, refl, [], ◌∷◌, ◌++◌, length}
 use lib.Chars.{codes}
 use Rattle.std.specs.Fmt.{digits}
 use Rattle.bqn_base.specs.declared.fault.Fault.TheVariants.{Domain, Overflow, NotWhole, DivideByZero, CharRange, NoCompare, NotCallable, TooDeep, NoBody}
-use Rattle.bqn_base.specs.Plain.{Atop, Fork, Value, Number, Character, Array, Given, Derived, Function, Modifier1, Namespace, Values, none, more, unfilled}
+use Rattle.bqn_base.specs.Plain.{Atop, Fork, Value, Number, Character, Given, Derived, Function, Modifier1, Namespace, none, more}
 use Rattle.bqn_base.specs.Primitives as p
 use Rattle.bqn_base.specs.Primitives.{Primitive, primitives, monadic, dyadic}
-use Rattle.bqn_base.specs.Shown.{shown, primitive_signs, spelling}
-use Rattle.bqn_base.specs.Calls as c
+use Rattle.bqn_base.specs.Shown.{shown, primitive_signs}
 use Rattle.bqn_base.specs.Calls.{alone, two}
 use Rattle.bqn_base.specs.Questions.{next, Outcome, Asks, Enter, Write}
 

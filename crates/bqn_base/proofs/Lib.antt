@@ -1,4 +1,10 @@
 pub mod Fits
+pub mod Matching
+pub mod Order
+pub mod Ties
+pub mod Making
+pub mod Questioning
+pub mod Roots
 mod Samples
 mod ValueSamples
 mod CallSamples

@@ -1,10 +1,10 @@
 -- Worked rows of plain values and the relations on them, computed.
-use Rattle.std.proofs.Common.{◌≡◌, ℕ, zero, suc, ℤ, pos, negsuc, Bool, true, false, Option, Some, None, Ok, Err, refl, List, [], ◌∷◌, Less, Equal, Greater}
+use Rattle.std.proofs.Common.{◌≡◌, ℕ, zero, suc, pos, negsuc, true, false, Some, None, Ok, Err, refl, List, [], ◌∷◌, Less, Greater}
 use Rattle.std.specs.Prelude.{codes}
 use Rattle.bqn_base.specs.declared.fault.Fault.TheVariants.{NoCompare, TooLarge, TooDeep}
-use Rattle.bqn_base.specs.Plain.{One, Two, Atop, Fork, Value, Number, Character, Array, Given, Derived, Function, Modifier1, Modifier2, Namespace, Values, none, more, Fill, unfilled, filled, kind, kind_number, values}
-use Rattle.bqn_base.specs.Relations.{weight, height, depth, extent, prototype, fill_of, matching, levels, no_level, only, from, ordered, before, same}
-use Rattle.bqn_base.specs.Limits.{made, array, derived, block_function, proper, size, places}
+use Rattle.bqn_base.specs.Plain.{One, Two, Atop, Fork, Value, Number, Character, Array, Given, Derived, Function, Modifier1, Namespace, Values, none, more, unfilled, filled, kind, kind_number}
+use Rattle.bqn_base.specs.Relations.{weight, height, depth, extent, prototype, fill_of, matching, levels, no_level, only, from, ordered, before}
+use Rattle.bqn_base.specs.Limits.{made, array, derived, block_function, proper}
 
 -- ---- values to work on
 

@@ -1,6 +1,6 @@
 -- Arithmetic and comparison on atoms: BQN's pages on arithmetic, on characters and on comparisons. Types are looked at before
 -- values. NoCompare is this project's own.
-use Rattle.std.specs.Prelude.{ℕ, ◌&&◌, ◌==◌, Bool, true, false, not, ℤ, pos, negsuc, ◌+ℤ◌, ◌-ℤ◌, Result, Ok, Err}
+use Rattle.std.specs.Prelude.{ℕ, Bool, true, false, not, ℤ, pos, negsuc, ◌+ℤ◌, ◌-ℤ◌, Result, Ok, Err}
 use Rattle.std.specs.declared.cmp.Ordering.{Ordering}
 use lib.Utf8.{scalar}
 use Rattle.bqn_base.specs.declared.fault.Fault.{Fault}

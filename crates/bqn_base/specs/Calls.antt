@@ -1,9 +1,9 @@
 -- What a call does, as far as the values alone tell it: BQN's pages on evaluation, on trains and on expressions. A call of a block
 -- asks the evaluation that it stands in; the form of such questions is this project's own.
-use Rattle.std.specs.Prelude.{ℕ, ◌-◌, nat_lt, Bool, true, false, ℤ, pos, List, [], ◌∷◌, slice_get, Option, Some, None, Result, Ok, Err}
+use Rattle.std.specs.Prelude.{ℕ, ◌-◌, nat_lt, true, false, pos, List, [], ◌∷◌, slice_get, Option, Some, None, Result, Ok, Err}
 use Rattle.bqn_base.specs.declared.fault.Fault.{Fault}
 use Rattle.bqn_base.specs.declared.fault.Fault.TheVariants.{Domain, NotCallable}
-use Rattle.bqn_base.specs.Plain.{Maker, One, Two, Atop, Fork, Value, Number, Character, Array, Given, Derived, Function, Modifier1, Modifier2, Namespace, Values, none, more, kind, kind_number}
+use Rattle.bqn_base.specs.Plain.{Atop, Fork, Value, Number, Character, Array, Given, Derived, Function, Modifier1, Modifier2, Namespace, Values, none, more, kind, kind_number}
 use Rattle.bqn_base.specs.Primitives.{Primitive, primitives, monadic, dyadic, row_to_come}
 use Rattle.bqn_base.specs.Printed.{line}
 use Rattle.bqn_base.specs.Shown.{shown}

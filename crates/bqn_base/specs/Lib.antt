@@ -13,4 +13,5 @@ pub mod Shown
 pub mod Calls
 pub mod Running
 pub mod Questions
+pub mod Laws
 pub mod formers

@@ -1,6 +1,6 @@
 -- The rows of arithmetic on numbers beside sums, differences and products: BQN's page on arithmetic, on whole numbers of 64 bits.
 -- NotWhole, where BQN's answer is no whole number, is this project's own.
-use Rattle.std.specs.Prelude.{ℕ, zero, suc, ◌*◌, ◌/◌, ◌%◌, ◌^◌, ◌==◌, nat_eq, ℤ, pos, negsuc, ◌+ℤ◌, ◌-ℤ◌, ◌*ℤ◌, neg_ℤ, nat_abs, int_div, Bool, true, false, Option, Some, None, Result, Ok, Err}
+use Rattle.std.specs.Prelude.{ℕ, zero, suc, ◌/◌, ◌%◌, ◌^◌, nat_eq, ℤ, pos, negsuc, ◌+ℤ◌, ◌-ℤ◌, ◌*ℤ◌, neg_ℤ, nat_abs, int_div, Bool, true, false, Option, Some, None, Result, Ok, Err}
 use Rattle.std.specs.Int.{int_pow, int_min, int_max}
 use Rattle.bqn_base.specs.declared.fault.Fault.{Fault}
 use Rattle.bqn_base.specs.declared.fault.Fault.TheVariants.{Domain, DivideByZero, NotWhole}

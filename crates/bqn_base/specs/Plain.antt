@@ -1,6 +1,6 @@
 -- Plain values: BQN's page on types, for whole numbers of 64 bits. Blocks and environments are told by their numbers, and which
 -- code a given value has, and that a value carries such numbers, is this project's own.
-use Rattle.std.specs.Prelude.{ℕ, suc, ◌+◌, ◌*◌, zero, nat_eq, nat_lt, nat_le, Bool, true, false, ◌&&◌, ℤ, pos, negsuc, List, [], ◌∷◌, Option, Some, None}
+use Rattle.std.specs.Prelude.{ℕ, suc, nat_lt, nat_le, Bool, true, false, ◌&&◌, ℤ, List, [], ◌∷◌, Option, Some, None}
 
 -- what a derived function was made by: a given 1-modifier or 2-modifier, told by its code, or a train of two or of three parts
 pub data Maker : Type 0 where

@@ -1,5 +1,5 @@
 -- A call as a reader of a specification looks for it: given the replies so far, its outcome or its next question. This project's own.
-use Rattle.std.specs.Prelude.{◌≡◌, ℕ, zero, suc, List, [], ◌∷◌, Option, Result, Ok, Err}
+use Rattle.std.specs.Prelude.{◌≡◌, ℕ, zero, suc, List, [], ◌∷◌, Option, Result, Err}
 use Rattle.bqn_base.specs.declared.fault.Fault.{Fault}
 use Rattle.bqn_base.specs.declared.fault.Fault.TheVariants.{TooDeep}
 use Rattle.bqn_base.specs.Plain.{Value, Values}

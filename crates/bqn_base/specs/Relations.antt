@@ -1,12 +1,12 @@
 -- Relations on values: prototypes and fills, Match, and the order, from BQN's pages on fill elements, match and ordered functions.
 -- That only prototypes are fills, and weight, height and extent, are this project's own.
-use Rattle.std.specs.Prelude.{ℕ, zero, suc, ◌+◌, max, nat_eq, nat_le, Bool, true, false, ◌&&◌, ◌==◌, ℤ, pos, List, [], ◌∷◌, Option, Some, None, Result, Ok, Err}
+use Rattle.std.specs.Prelude.{ℕ, suc, ◌+◌, max, nat_eq, nat_le, Bool, true, false, ◌&&◌, pos, List, [], ◌∷◌, Option, Some, None, Result, Ok, Err}
 use Rattle.std.specs.declared.cmp.Ordering.{Ordering}
 use Rattle.std.specs.declared.cmp.Ordering.TheVariants.{Less, Equal, Greater}
 use Rattle.std.specs.Ordering.{nat_cmp, int_cmp, int_eq, ordering_then, is_lt}
 use Rattle.bqn_base.specs.declared.fault.Fault.{Fault}
 use Rattle.bqn_base.specs.declared.fault.Fault.TheVariants.{NoCompare}
-use Rattle.bqn_base.specs.Plain.{Maker, One, Two, Atop, Fork, Value, Number, Character, Array, Given, Derived, Function, Modifier1, Modifier2, Namespace, Values, none, more, Fill, unfilled, filled, fill, Kind, kind, kind_number}
+use Rattle.bqn_base.specs.Plain.{Maker, One, Two, Atop, Fork, Value, Number, Character, Array, Given, Derived, Function, Modifier1, Modifier2, Namespace, Values, none, more, Fill, unfilled, filled, kind, kind_number}
 
 -- ---- how large a value is
 
@@ -203,6 +203,7 @@ common (from j) (from k) = from (max j k)
 common _ _ = no_level
 
 abbrev mutual
+  -- the levels of a value: none for an operation, a namespace, a table, or a list of elements without a common one
   pub levels : Value → Levels
   levels (Number n) = only 0
   levels (Character c) = only 0
@@ -218,16 +219,20 @@ is_level k no_level = false
 is_level k (only j) = nat_eq j k
 is_level k (from j) = nat_le j k
 
+-- where a type stands; values of different types have no common level but for numbers and characters, so only these are compared
+abbrev pub rank_of : Value → ℕ
+rank_of (Number n) = 0
+rank_of (Character c) = 1
+rank_of (Array shape xs f) = 2
+rank_of _ = 3
+
 abbrev mutual
-  -- numbers by value, characters by code, a number before a character, lists by their first unequal elements and a prefix first;
-  -- it tells nothing of values without a common level
+  -- numbers by value, characters by code, a number before a character, lists by their first unequal elements and a prefix first
   pub ordered : Value → Value → Ordering
   ordered (Number w) (Number x) = int_cmp w x
-  ordered (Number w) (Character x) = Less
-  ordered (Character w) (Number x) = Greater
   ordered (Character w) (Character x) = nat_cmp w x
   ordered (Array s ws f) (Array t xs g) = all_ordered ws xs
-  ordered _ _ = Equal
+  ordered w x = nat_cmp (rank_of w) (rank_of x)
 
   pub all_ordered : Values → Values → Ordering
   all_ordered none none = Equal

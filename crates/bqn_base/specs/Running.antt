@@ -1,5 +1,5 @@
 -- How a call runs in an evaluation that keeps a state of type S, and that may end at an X instead: this project's own.
-use Rattle.std.specs.Prelude.{ℕ, zero, suc, List, Result, Ok, Err}
+use Rattle.std.specs.Prelude.{ℕ, zero, suc, List, Result, Err}
 use Rattle.bqn_base.specs.declared.fault.Fault.{Fault}
 use Rattle.bqn_base.specs.declared.fault.Fault.TheVariants.{TooDeep}
 use Rattle.bqn_base.specs.Plain.{Value, Values}
