@@ -1,14 +1,14 @@
 -- Worked rows of arithmetic and comparison on atoms, and of calls, computed.
-use Rattle.std.proofs.Common.{◌≡◌, ℕ, pos, negsuc, Some, None, Ok, Err, refl, [], ◌∷◌, ◌++◌, length}
+use Rattle.std.proofs.Common.{◌≡◌, ℕ, pos, negsuc, Some, None, Ok, Err, refl, [], ◌∷◌, ◌++◌, length, slice_get}
 use lib.Chars.{codes}
 use Rattle.std.specs.Fmt.{digits}
 use Rattle.bqn_base.specs.declared.fault.Fault.TheVariants.{Domain, Overflow, NotWhole, DivideByZero, CharRange, NoCompare, NotCallable, TooDeep, NoBody}
 use Rattle.bqn_base.specs.Plain.{Atop, Fork, Value, Number, Character, Given, Derived, Function, Modifier1, Namespace, none, more}
 use Rattle.bqn_base.specs.Primitives as p
 use Rattle.bqn_base.specs.Primitives.{Primitive, primitives, monadic, dyadic}
-use Rattle.bqn_base.specs.Shown.{shown, primitive_signs}
-use Rattle.bqn_base.specs.Calls.{alone, two}
-use Rattle.bqn_base.specs.Questions.{next, Outcome, Asks, Enter, Write}
+use Rattle.bqn_base.specs.Shown.{shown, spelling, primitive_signs}
+use Rattle.bqn_base.specs.Calls.{alone, two, no_arguments, run_block}
+use Rattle.bqn_base.specs.Questions.{next, walk, Outcome, Asks, Enter, Write}
 
 abbrev n : ℕ → Value
 n k = Number (pos k)
@@ -241,6 +241,43 @@ signs = refl
 functions : length primitives ≡ 44
 functions = refl
 
+-- codes, names and signs go together
+code_of_merge : slice_get primitives 13 ≡ Some p.greater
+code_of_merge = refl
+
+sign_of_merge : spelling 13 ≡ codes ">"
+sign_of_merge = refl
+
+code_of_not : slice_get primitives 9 ≡ Some p.not_sign
+code_of_not = refl
+
+sign_of_not : spelling 9 ≡ codes "¬"
+sign_of_not = refl
+
+code_of_left : slice_get primitives 20 ≡ Some p.left
+code_of_left = refl
+
+sign_of_left : spelling 20 ≡ codes "⊣"
+sign_of_left = refl
+
+code_of_transpose : slice_get primitives 32 ≡ Some p.transpose
+code_of_transpose = refl
+
+sign_of_transpose : spelling 32 ≡ codes "⍉"
+sign_of_transpose = refl
+
+code_of_assert : slice_get primitives 43 ≡ Some p.assert
+code_of_assert = refl
+
+sign_of_assert : spelling 43 ≡ codes "!"
+sign_of_assert = refl
+
+sign_of_constant : spelling 44 ≡ codes "˙"
+sign_of_constant = refl
+
+sign_of_atop : spelling 53 ≡ codes "∘"
+sign_of_atop = refl
+
 text_of_plus : shown plus ≡ codes "+"
 text_of_plus = refl
 
@@ -331,3 +368,6 @@ show_with_left_argument = refl
 
 type_of_function : next (Given 68) None plus 0 [] ≡ Outcome (Ok (n 3))
 type_of_function = refl
+
+immediate_block_asks : walk (run_block 1 0 none) 5 (λ r rest. Outcome r) [] ≡ Asks (Enter 1 0 none no_arguments 4)
+immediate_block_asks = refl

@@ -2,6 +2,9 @@ pub mod Fits
 pub mod Matching
 pub mod Order
 pub mod Ties
+pub mod Levels
+pub mod Proper
+pub mod Prototypes
 pub mod Making
 pub mod Questioning
 pub mod Roots

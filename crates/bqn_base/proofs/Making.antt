@@ -1,10 +1,11 @@
--- What is made keeps the limits, and is proper where its parts are; a prototype is its own.
-use Rattle.std.proofs.Common.{◌≡◌, ◌≤◌, ◌^◌, ℕ, Bool, true, false, ◌&&◌, nat_le, nat_eq, List, length, Option, Some, None, Ok, refl, sym, subst, eq-eqb, leb-true, le-leb}
+-- What is made keeps the limits, and is proper where its parts are.
+use Rattle.std.proofs.Common.{◌≡◌, ◌≤◌, ◌^◌, ℕ, Bool, true, false, ◌&&◌, nat_le, List, length, Option, Some, None, Ok, refl, sym, subst, leb-true, le-leb}
 use Rattle.std.proofs.lemmas.Bool.{and_parts, and_from}
-use Rattle.bqn_base.specs.Plain.{Maker, Value, Number, Character, Array, Derived, Function, Values, none, more, Fill, unfilled, count}
-use Rattle.bqn_base.specs.Relations.{weight, height, extent, prototype, prototypes, both, array_of}
+use Rattle.bqn_base.specs.Plain.{Maker, Value, Array, Derived, Function, Values, none, more, Fill, unfilled, count}
+use Rattle.bqn_base.specs.Relations.{weight, height, extent, prototype}
 use Rattle.bqn_base.specs.Limits.{places, size, is_shape, is_small, is_low, is_within, if_within, made, kept, carrying, array, derived, block_function, is_made_of, is_same_as, is_fill, fits_elements, proper, all_proper, proper_fill}
-use Rattle.bqn_base.specs.Laws.{HasAxes, IsFill, MadeIsWithinLimits, PrototypesAreTheirOwn}
+use Rattle.bqn_base.specs.Laws.{HasAxes, IsFill, MadeIsWithinLimits}
+use Rattle.bqn_base.proofs.Proper.{from-whole}
 
 -- ---- limits
 
@@ -49,9 +50,7 @@ filled-proper : (shape : List ℕ) (xs : Values) (g : Fill) (v : Value) → plac
 filled-proper shape xs g v c p e f h =
     let w = within (Array shape xs g) v h in
     subst (λ u. proper u ≡ true) (sym w.itself)
-    (and_from (is_within (Array shape xs g) && nat_eq (places shape) (count xs)) (all_proper xs && (fits_elements xs g && proper_fill g))
-    (and_from (is_within (Array shape xs g)) (nat_eq (places shape) (count xs)) (is-within (Array shape xs g) v w) (eq-eqb (places shape) (count xs) c))
-    (and_from (all_proper xs) (fits_elements xs g && proper_fill g) p (and_from (fits_elements xs g) (proper_fill g) e f)))
+    (from-whole shape xs g (record { within = is-within (Array shape xs g) v w; counted = c; parts = p; fits = e; fill = f }))
 
 proper-array : (shape : List ℕ) (xs : Values) (f : Option Value) (v : Value) → places shape ≡ count xs → all_proper xs ≡ true → IsFill f → array shape xs f ≡ Ok v → proper v ≡ true
 proper-array shape none f v c p i h = filled-proper shape none (carrying f) v c p refl (carrying-proper f i) h
@@ -82,43 +81,4 @@ made_is_within_limits = record {
   proper_function = proper-function;
 }
 
--- ---- prototypes
-
-own-of : (x p : Value) → Some x ≡ Some p → prototype x ≡ Some x → prototype p ≡ Some p
-own-of x p h e = subst (λ q. prototype q ≡ Some q) (some-inside x p h) e
-  where
-    some-inside : (a b : Value) → Some a ≡ Some b → a ≡ b
-    some-inside a b k = cc
-
-array-own : (shape : List ℕ) (o : Option Value) (os : Option Values) (p : Value) → ((q : Value) → o ≡ Some q → prototype q ≡ Some q) → ((qs : Values) → os ≡ Some qs → prototypes qs ≡ Some qs) → array_of shape (both o os) ≡ Some p → prototype p ≡ Some p
-array-own shape (Some q) (Some qs) p e es h = own-of (Array shape (more q qs) unfilled) p h (λ i. array_of shape (both (e q refl i) (es qs refl i)))
-array-own shape (Some q) None p e es h = absurd cc
-array-own shape None os p e es h = absurd cc
-
-values-own : (o : Option Value) (os : Option Values) (ps : Values) → ((q : Value) → o ≡ Some q → prototype q ≡ Some q) → ((qs : Values) → os ≡ Some qs → prototypes qs ≡ Some qs) → both o os ≡ Some ps → prototypes ps ≡ Some ps
-values-own (Some q) (Some qs) ps e es h = subst (λ rs. prototypes rs ≡ Some rs) (values-inside (more q qs) ps h) (λ i. both (e q refl i) (es qs refl i))
-  where
-    values-inside : (a b : Values) → Some a ≡ Some b → a ≡ b
-    values-inside a b k = cc
-values-own (Some q) None ps e es h = absurd cc
-values-own None os ps e es h = absurd cc
-
-mutual
-  own : (v p : Value) → prototype v ≡ Some p → prototype p ≡ Some p
-  own (Number n) p h = own-of _ p h refl
-  own (Character c) p h = own-of _ p h refl
-  own (Array shape none f) p h = own-of (Array shape none f) p h refl
-  own (Array shape (more x xs) f) p h = array-own shape (prototype x) (prototypes xs) p (own x) (all-own xs) h
-  own _ p h = absurd cc
-
-  all-own : (vs ps : Values) → prototypes vs ≡ Some ps → prototypes ps ≡ Some ps
-  all-own none ps h = subst (λ rs. prototypes rs ≡ Some rs) (nothing ps h) refl
-    where
-      nothing : (b : Values) → Some none ≡ Some b → none ≡ b
-      nothing b k = cc
-  all-own (more x xs) ps h = values-own (prototype x) (prototypes xs) ps (own x) (all-own xs) h
-
-pub prototypes_are_their_own : PrototypesAreTheirOwn
-prototypes_are_their_own = record { own = own }
-
-pub ruleset making_laws = (made_is_within_limits, prototypes_are_their_own)
+pub ruleset making_laws = (made_is_within_limits)

@@ -1,14 +1,15 @@
 -- What the order does not tell apart at a level matches, and what matches it does not tell apart.
-use Rattle.std.proofs.Common.{◌≡◌, ℕ, suc, Bool, true, false, ◌&&◌, nat_eq, List, [], ◌∷◌, Ok, refl, sym, ap, ◌∙◌, arith, eq-eqb, eqb-true, Ordering, Equal}
+use Rattle.std.proofs.Common.{◌≡◌, ℕ, suc, Bool, true, false, nat_eq, [], ◌∷◌, Ok, refl, sym, ap, ◌∙◌, arith, eq-eqb, eqb-true, Ordering, Equal}
 use Rattle.std.specs.Ordering.{ordering_then, nat_cmp, int_cmp, int_eq, is_eq}
 use Rattle.std.specs.Cmp.{Equal-is, ranked, nat_cmp_is}
 use Rattle.std.proofs.lemmas.Bool.{and_parts, and_from}
-use Rattle.bqn_base.specs.Plain.{Value, Number, Character, Array, Values, none, more, Fill, count, kind, kind_number}
+use Rattle.bqn_base.specs.Plain.{Value, Number, Character, Array, Values, none, more, count, kind, kind_number}
 use Rattle.bqn_base.specs.Relations.{same_shape, matching, all_matching, Levels, no_level, only, from, raised, common, levels, all_levels, is_level, ordered, all_ordered}
-use Rattle.bqn_base.specs.Limits.{places, is_within, proper, all_proper, fits_elements, proper_fill}
+use Rattle.bqn_base.specs.Limits.{places, proper, all_proper}
 use Rattle.bqn_base.specs.Laws.{OrderIsTotal}
 use Rattle.bqn_base.proofs.Matching.{inside, alike, alike-from, first, first-from, not_compared}
 use Rattle.bqn_base.proofs.Order.{both-equal, ordered_total}
+use Rattle.bqn_base.proofs.Proper.{whole}
 
 -- ---- what matches is not told apart
 
@@ -62,18 +63,6 @@ equal-count : (ws xs : Values) → all_ordered ws xs ≡ Equal → count ws ≡ 
 equal-count none none h = refl
 equal-count (more w ws) (more x xs) h = ap suc (equal-count ws xs (both-equal (ordered w x) (all_ordered ws xs) h).1)
 equal-count _ _ h = cc
-
-record Whole (s : List ℕ) (xs : Values) : Type 0 where
-  counted : places s ≡ count xs
-  parts : all_proper xs ≡ true
-
-whole : (s : List ℕ) (xs : Values) (f : Fill) → proper (Array s xs f) ≡ true → Whole s xs
-whole s xs f h =
-    let p = and_parts (is_within (Array s xs f) && nat_eq (places s) (count xs)) (all_proper xs && (fits_elements xs f && proper_fill f)) h in
-    record {
-      counted = eqb-true (places s) (count xs) (and_parts (is_within (Array s xs f)) (nat_eq (places s) (count xs)) p.0).1;
-      parts = (and_parts (all_proper xs) (fits_elements xs f && proper_fill f) p.1).0;
-    }
 
 same-length : (n m : ℕ) (ws xs : Values) → places (n ∷ []) ≡ count ws → places (m ∷ []) ≡ count xs → count ws ≡ count xs → same_shape (n ∷ []) (m ∷ []) ≡ true
 same-length n m ws xs p q e = and_from (nat_eq n m) true (eq-eqb n m (omega arith)) refl

@@ -24,12 +24,15 @@ pub data Call : Type 0 where
   Write : (text : List ℕ) → (go : Unit {0} → Call) → Call
   Inside : Call → (go : Result Value Fault → Call) → Call
 
+-- a call that answers at once
 abbrev pub answer : Value → Call
 answer v = End (Ok v)
 
+-- a call that faults at once
 abbrev pub fault : Fault → Call
 fault f = End (Err f)
 
+-- the next call, or the fault that ended the first
 abbrev pub ended : Result Value Fault → (Value → Call) → Call
 ended (Ok v) next = next v
 ended (Err f) next = fault f
@@ -43,12 +46,14 @@ abbrev pub ◌>>=◌ : Call → (Value → Call) → Call
 (Write text go) >>= next = Write text (λ u. go u >>= next)
 (Inside t go) >>= next = Inside t (λ r. go r >>= next)
 
+-- a right argument, perhaps with a left one
 abbrev pub arguments : Option Value → Value → Arguments
 arguments None x = alone x
 arguments (Some w) x = two w x
 
 -- ---- given values
 
+-- what the primitive function answers, if there is one
 abbrev pub primitive_answer : Option Primitive → Option Value → Value → Result Value Fault
 primitive_answer None w x = Err NotCallable
 primitive_answer (Some p) None x = monadic p x
@@ -75,6 +80,7 @@ called_system None w x = fault NotCallable
 called_system (Some f) None x = system_call f x
 called_system (Some f) (Some w) x = fault Domain
 
+-- a call of the given value with this code
 abbrev pub given_call : ℕ → Option Value → Value → Call
 given_call code w x =
     elim (nat_lt code 64) [ true ↦ End (primitive_answer (slice_get primitives code) w x) | false ↦ called_system (slice_get systems (code - 64)) w x ]
@@ -100,3 +106,7 @@ call (Derived maker parts) w x = Inside modifier_to_come End
 call (Function block environment operands) w x = Enter block environment operands (arguments w x) End
 call (Modifier1 block environment) w x = fault NotCallable
 call (Modifier2 block environment) w x = fault NotCallable
+
+-- a run of an immediate block, or of a block modifier that runs once it has its operands
+abbrev pub run_block : (block environment : ℕ) (operands : Values) → Call
+run_block block environment operands = Enter block environment operands no_arguments End

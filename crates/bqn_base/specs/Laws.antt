@@ -1,9 +1,9 @@
 -- What holds of the definitions of values themselves.
-use Rattle.std.specs.Prelude.{◌≡◌, ◌≤◌, ◌^◌, ◌↔◌, ℕ, Bool, true, false, ◌&&◌, List, length, Option, Some, None, Ok}
+use Rattle.std.specs.Prelude.{◌≡◌, ◌≤◌, ◌^◌, ◌↔◌, ℕ, suc, nat_eq, ℤ, Bool, true, false, ◌&&◌, List, [], ◌∷◌, length, Option, Some, None, Ok}
 use Rattle.std.specs.Cmp.{IsTotalOrder}
 use Rattle.std.specs.declared.cmp.Ordering.TheVariants.{Equal}
-use Rattle.bqn_base.specs.Plain.{Maker, Value, Number, Character, Array, Values, none, more, unfilled, count}
-use Rattle.bqn_base.specs.Relations.{weight, height, same, prototype, matching, ordered, levels, is_level}
+use Rattle.bqn_base.specs.Plain.{Maker, Value, Number, Character, Array, Values, none, more, Fill, unfilled, count}
+use Rattle.bqn_base.specs.Relations.{weight, height, same, prototype, fill_of, matching, ordered, levels, is_level}
 use Rattle.bqn_base.specs.Limits.{places, size, made, array, derived, block_function, is_made_of, is_same_as, proper, all_proper}
 use Rattle.bqn_base.specs.Numbers.{whole_root}
 
@@ -50,6 +50,17 @@ pub record OrderIsTotal : Type 0 where
   pub tied : (k : ℕ) (w x : Value) → proper w ≡ true → proper x ≡ true → is_level k (levels w) ≡ true → is_level k (levels x) ≡ true → ordered w x ≡ Equal → matching w x ≡ Ok true
   pub matched : (w x : Value) → matching w x ≡ Ok true → ordered w x ≡ Equal
 
+abbrev pub all_of_level : ℕ → Values → Bool
+all_of_level k none = true
+all_of_level k (more x xs) = is_level k (levels x) && all_of_level k xs
+
+-- numbers and characters have level 0 alone, and a list has level k + 1 where all its elements have level k
+pub record LevelsAreOfElements : Type 0 where
+  pub number : (k : ℕ) (n : ℤ) → is_level k (levels (Number n)) ≡ nat_eq k 0
+  pub character : (k c : ℕ) → is_level k (levels (Character c)) ≡ nat_eq k 0
+  pub list : (k n : ℕ) (xs : Values) (f : Fill) → is_level (suc k) (levels (Array (n ∷ []) xs f)) ≡ all_of_level k xs
+  pub no_list : (n : ℕ) (xs : Values) (f : Fill) → is_level 0 (levels (Array (n ∷ []) xs f)) ≡ false
+
 -- ---- limits
 
 -- at most 16 axes, whose product without the zeros is at most 2^22
@@ -71,9 +82,13 @@ pub record MadeIsWithinLimits : Type 0 where
   pub proper_derived : (maker : Maker) (parts : Values) (v : Value) → is_made_of maker parts ≡ true → all_proper parts ≡ true → derived maker parts ≡ Ok v → proper v ≡ true
   pub proper_function : (block environment : ℕ) (operands : Values) (v : Value) → count operands ≤ 2 → all_proper operands ≡ true → block_function block environment operands ≡ Ok v → proper v ≡ true
 
--- a prototype is its own prototype
-pub record PrototypesAreTheirOwn : Type 0 where
+-- a prototype is its own prototype, as large as the value, and proper where the value is; so the fill of a proper value may be carried
+pub record PrototypesAreFills : Type 0 where
   pub own : (v p : Value) → prototype v ≡ Some p → prototype p ≡ Some p
+  pub weight_kept : (v p : Value) → prototype v ≡ Some p → weight p ≡ weight v
+  pub height_kept : (v p : Value) → prototype v ≡ Some p → height p ≡ height v
+  pub proper_kept : (v p : Value) → proper v ≡ true → prototype v ≡ Some p → proper p ≡ true
+  pub fill : (v p : Value) → proper v ≡ true → fill_of v ≡ Some p → IsFill (Some p)
 
 -- ---- numbers
 

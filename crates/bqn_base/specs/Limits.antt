@@ -27,12 +27,15 @@ abbrev pub is_small : Value → Bool
 is_small (Array shape xs f) = is_shape shape && nat_le (weight (Array shape xs f)) (2 ^ 22)
 is_small v = nat_le (weight v) (2 ^ 22)
 
+-- the limit of height
 abbrev pub is_low : Value → Bool
 is_low v = nat_le (height v) 128
 
+-- all limits
 abbrev pub is_within : Value → Bool
 is_within v = is_small v && is_low v
 
+-- the value, or the fault of the first limit that it does not keep
 abbrev pub if_low : Bool → Value → Result Value Fault
 if_low true v = Ok v
 if_low false v = Err TooDeep
@@ -41,7 +44,7 @@ abbrev pub if_within : (small low : Bool) → Value → Result Value Fault
 if_within true low v = if_low low v
 if_within false low v = Err TooLarge
 
--- the check of a value that is made
+-- the check of a value when it is made: TooLarge, or else TooDeep, or the value
 abbrev pub made : Value → Result Value Fault
 made v = if_within (is_small v) (is_low v) v
 
@@ -61,6 +64,7 @@ abbrev pub array : List ℕ → Values → Option Value → Result Value Fault
 array shape none f = made (Array shape none (carrying f))
 array shape (more x xs) f = made (Array shape (more x xs) unfilled)
 
+-- a derived function of these parts
 abbrev pub derived : Maker → Values → Result Value Fault
 derived maker parts = made (Derived maker parts)
 

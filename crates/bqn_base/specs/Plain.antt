@@ -7,6 +7,7 @@ pub data Maker : Type 0 where
   One Two : ℕ → Maker
   Atop Fork : Maker
 
+-- a value, a row of values, and the fill that an empty array may carry
 mutual
   pub data Value : Type 0 where
     Number : ℤ → Value
@@ -31,6 +32,7 @@ mutual
     unfilled : Fill
     filled : Value → Fill
 
+-- the row of a list of values, and the list of a row
 abbrev pub values : List Value → Values
 values [] = none
 values (x ∷ xs) = more x (values xs)
@@ -39,6 +41,7 @@ abbrev pub list : Values → List Value
 list none = []
 list (more x xs) = x ∷ list xs
 
+-- a fill, or none
 abbrev pub fill : Option Value → Fill
 fill None = unfilled
 fill (Some v) = filled v
@@ -50,27 +53,27 @@ count (more x xs) = suc (count xs)
 
 -- ---- given values
 
--- 44 primitive functions, 9 primitive 1-modifiers, 11 primitive 2-modifiers, and 5 system functions
-abbrev pub is_primitive : ℕ → Bool
-is_primitive code = nat_lt code 44
-
+-- codes 0 to 43 are the primitive functions, 44 to 52 the primitive 1-modifiers, 53 to 63 the 2-modifiers, 64 to 68 the system functions
 abbrev pub is_given_modifier1 : ℕ → Bool
 is_given_modifier1 code = nat_le 44 code && nat_lt code 53
 
 abbrev pub is_given_modifier2 : ℕ → Bool
 is_given_modifier2 code = nat_le 53 code && nat_lt code 64
 
+-- a code that a value may have
 abbrev pub is_given : ℕ → Bool
 is_given code = nat_lt code 69
 
 -- ---- types
 
+-- the types that Match tells apart
 pub data Kind : Type 0 where
   array number character function modifier1 modifier2 namespace : Kind
 
 abbrev pub given_kind : ℕ → Kind
 given_kind code = elim (is_given_modifier1 code) [ true ↦ modifier1 | false ↦ elim (is_given_modifier2 code) [ true ↦ modifier2 | false ↦ function ] ]
 
+-- the type of a value
 abbrev pub kind : Value → Kind
 kind (Number n) = number
 kind (Character c) = character

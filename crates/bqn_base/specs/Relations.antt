@@ -87,6 +87,7 @@ same_shape [] [] = true
 same_shape (n ∷ s) (m ∷ t) = nat_eq n m && same_shape s t
 same_shape _ _ = false
 
+-- the same value in all its parts
 abbrev mutual
   pub same : Value → Value → Bool
   same (Number w) (Number x) = int_eq w x
@@ -112,6 +113,7 @@ abbrev mutual
 
 -- ---- prototypes and fills
 
+-- a value in front of others, where both are there
 abbrev pub both : Option Value → Option Values → Option Values
 both (Some x) (Some xs) = Some (more x xs)
 both _ _ = None
@@ -143,6 +145,7 @@ abbrev pub common_prototype : Value → Values → Option Value
 common_prototype x none = prototype x
 common_prototype x (more y ys) = shared (prototype x) (common_prototype y ys)
 
+-- the fill that is carried, if there is one
 abbrev pub carried : Fill → Option Value
 carried unfilled = None
 carried (filled v) = Some v
@@ -160,6 +163,7 @@ abbrev pub first_unequal : Result Bool Fault → Result Bool Fault → Result Bo
 first_unequal (Ok true) next = next
 first_unequal decided next = decided
 
+-- the comparison of what is alike so far; what is not is unequal
 abbrev pub where_alike : Bool → Result Bool Fault → Result Bool Fault
 where_alike true matched = matched
 where_alike false matched = Ok false
@@ -214,6 +218,7 @@ abbrev mutual
   all_levels none = from 0
   all_levels (more x xs) = common (levels x) (all_levels xs)
 
+-- whether a level is among these
 abbrev pub is_level : ℕ → Levels → Bool
 is_level k no_level = false
 is_level k (only j) = nat_eq j k
@@ -240,5 +245,6 @@ abbrev mutual
   all_ordered (more w ws) none = Greater
   all_ordered (more w ws) (more x xs) = ordering_then (ordered w x) (all_ordered ws xs)
 
+-- the first stands before the second
 abbrev pub before : Value → Value → Bool
 before w x = is_lt (ordered w x)

@@ -1,6 +1,6 @@
 //! What holds of the definitions themselves: nothing runs here.
 
-ghost use Rattle.bqn_base.specs.Laws.{MatchIsEquality, SameIsEquality, OrderIsTotal, MadeIsWithinLimits, PrototypesAreTheirOwn, RootsAreFound};
+ghost use Rattle.bqn_base.specs.Laws.{MatchIsEquality, SameIsEquality, OrderIsTotal, LevelsAreOfElements, MadeIsWithinLimits, PrototypesAreFills, RootsAreFound};
 ghost use Rattle.bqn_base.specs.Questions.{QuestionsAreOfTheCall};
 
 /// Match is equality of data up to fills: reflexive there, symmetric and transitive.
@@ -21,16 +21,22 @@ pub fn order_is_total()
     ensures { OrderIsTotal }
 {}
 
+/// A list has level k + 1 where all its elements have level k; numbers and characters have level 0.
+#[tactic(auto, using(crate::proofs::Levels::level_laws))]
+pub fn levels_are_of_elements()
+    ensures { LevelsAreOfElements }
+{}
+
 /// What is made keeps the limits, and is proper where its parts are.
 #[tactic(auto, using(crate::proofs::Making::making_laws))]
 pub fn made_is_within_limits()
     ensures { MadeIsWithinLimits }
 {}
 
-/// A prototype is its own prototype.
-#[tactic(auto, using(crate::proofs::Making::making_laws))]
-pub fn prototypes_are_their_own()
-    ensures { PrototypesAreTheirOwn }
+/// A prototype is its own prototype and as large as the value; it and the fill of a proper value may be carried.
+#[tactic(auto, using(crate::proofs::Prototypes::prototype_laws))]
+pub fn prototypes_are_fills()
+    ensures { PrototypesAreFills }
 {}
 
 /// A whole root is found where there is one.
