@@ -116,8 +116,8 @@ then-less Greater s h = absurd cc
 less-then : (r s : Ordering) → r ≡ Less → ordering_then r s ≡ Less
 less-then r s e = ap (λ o. ordering_then o s) e
 
-equal-then : (r s : Ordering) → r ≡ Equal → s ≡ Less → ordering_then r s ≡ Less
-equal-then r s e h = ap (λ o. ordering_then o s) e ∙ h
+pub equal-then : (r s o : Ordering) → r ≡ Equal → s ≡ o → ordering_then r s ≡ o
+equal-then r s o e h = ap (λ q. ordering_then q s) e ∙ h
 
 -- a value that is not told apart from the second
 alike-right : (v w x : Value) → ordered w x ≡ Equal → ordered v x ≡ ordered v w
@@ -162,7 +162,7 @@ mutual
         ]
         | inr p ↦ elim (then-less (ordered w x) (all_ordered ws xs) k) as (λ _. ordering_then (ordered v x) (all_ordered vs xs) ≡ Less) [
           | inl q ↦ less-then (ordered v x) (all_ordered vs xs) (alike v w x p.0 ∙ q)
-          | inr q ↦ equal-then (ordered v x) (all_ordered vs xs) (alike v w x p.0 ∙ q.0) (all-chain vs ws xs p.1 q.1)
+          | inr q ↦ equal-then (ordered v x) (all_ordered vs xs) Less (alike v w x p.0 ∙ q.0) (all-chain vs ws xs p.1 q.1)
         ]
       ]
 

@@ -1,6 +1,6 @@
 -- What the order does not tell apart at a level matches, and what matches it does not tell apart.
-use Rattle.std.proofs.Common.{◌≡◌, ℕ, suc, Bool, true, false, nat_eq, [], ◌∷◌, Ok, refl, sym, ap, ◌∙◌, arith, eq-eqb, eqb-true, Ordering, Equal}
-use Rattle.std.specs.Ordering.{ordering_then, nat_cmp, int_cmp, int_eq, is_eq}
+use Rattle.std.proofs.Common.{◌≡◌, ℕ, suc, Bool, true, false, nat_eq, [], ◌∷◌, Ok, refl, sym, ap, arith, eq-eqb, eqb-true, Equal}
+use Rattle.std.specs.Ordering.{nat_cmp, int_cmp, int_eq, is_eq}
 use Rattle.std.specs.Cmp.{Equal-is, ranked, nat_cmp_is}
 use Rattle.std.proofs.lemmas.Bool.{and_parts, and_from}
 use Rattle.bqn_base.specs.Plain.{Value, Number, Character, Array, Values, none, more, count, kind, kind_number}
@@ -8,13 +8,10 @@ use Rattle.bqn_base.specs.Relations.{same_shape, matching, all_matching, Levels,
 use Rattle.bqn_base.specs.Limits.{places, proper, all_proper}
 use Rattle.bqn_base.specs.Laws.{OrderIsTotal}
 use Rattle.bqn_base.proofs.Matching.{inside, alike, alike-from, first, first-from, not_compared}
-use Rattle.bqn_base.proofs.Order.{both-equal, ordered_total}
+use Rattle.bqn_base.proofs.Order.{both-equal, equal-then, ordered_total}
 use Rattle.bqn_base.proofs.Proper.{whole}
 
 -- ---- what matches is not told apart
-
-equal-then : (r s : Ordering) → r ≡ Equal → s ≡ Equal → ordering_then r s ≡ Equal
-equal-then r s e h = ap (λ o. ordering_then o s) e ∙ h
 
 nat-tied : (w x : ℕ) → w ≡ x → nat_cmp w x ≡ Equal
 nat-tied w x e = sym (nat_cmp_is w x Equal e)
@@ -30,7 +27,7 @@ mutual
   all-matched none none h = refl
   all-matched (more w ws) (more x xs) h =
       let p = first (matching w x) (all_matching ws xs) h in
-      equal-then (ordered w x) (all_ordered ws xs) (matched w x p.0) (all-matched ws xs p.1)
+      equal-then (ordered w x) (all_ordered ws xs) Equal (matched w x p.0) (all-matched ws xs p.1)
   all-matched _ _ h = cc
 
 -- ---- what has a level
