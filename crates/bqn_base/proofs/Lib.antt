@@ -1,2 +1,13 @@
 pub mod Fits
+pub mod Matching
+pub mod Order
+pub mod Ties
+pub mod Levels
+pub mod Proper
+pub mod Prototypes
+pub mod Making
+pub mod Questioning
+pub mod Roots
 mod Samples
+mod ValueSamples
+mod CallSamples

@@ -3,4 +3,15 @@ pub mod Names
 pub mod Arithmetic
 pub mod Literal
 pub mod Printed
+pub mod Plain
+pub mod Relations
+pub mod Limits
+pub mod Numbers
+pub mod Atoms
+pub mod Primitives
+pub mod Shown
+pub mod Calls
+pub mod Running
+pub mod Questions
+pub mod Laws
 pub mod formers
