@@ -5,3 +5,4 @@ mod TokenSamples
 mod GrammarSamples
 mod BracketSamples
 mod ScopeSamples
+mod MeaningSamples

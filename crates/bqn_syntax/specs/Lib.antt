@@ -25,3 +25,12 @@ pub mod Order
 pub mod Mentions
 pub mod Scope
 pub mod Bodies
+pub mod Actions
+pub mod Counting
+pub mod Exporting
+pub mod Blocks
+pub mod Environments
+pub mod Frames
+pub mod Matching
+pub mod Deriving
+pub mod Meaning

@@ -1,0 +1,130 @@
+-- What is made of values that are evaluated: lists, derived functions, trains and blocks' values; and calls with Nothing: BQN's
+-- pages on expressions, on trains and on blocks. The order in which faults are found is this project's own.
+use Rattle.std.specs.Prelude.{ℕ, Bool, true, false, if◌then◌else◌, List, [], ◌∷◌, slice_get, Option, Some, None, Result, Ok, Err}
+use Rattle.bqn_base.specs.declared.fault.Fault.{Fault}
+use Rattle.bqn_base.specs.declared.fault.Fault.TheVariants.{NotCallable, NothingUsed}
+use Rattle.bqn_base.specs.Plain.{Maker, One, Two, Atop, Fork, Value, Given, Function, Modifier1, Modifier2, Values, none, more, count, is_given_modifier1, is_given_modifier2}
+use Rattle.bqn_base.specs.Limits.{array, derived, block_function}
+use Rattle.bqn_base.specs.Calls.{no_arguments, Call, End, Enter, answer, fault as call_fault, call}
+use Rattle.bqn_base.specs.Running.{Runs}
+use Rattle.bqn_syntax.specs.declared.tree.Class.{Class}
+use Rattle.bqn_syntax.specs.declared.tree.Class.TheVariants as class
+use Rattle.bqn_syntax.specs.Actions.{◌>>=◌, pure, fault, known, used}
+use Rattle.bqn_syntax.specs.Blocks.{Block}
+use Rattle.bqn_syntax.specs.Environments.{State, Spent, Does}
+use Rattle.bqn_syntax.specs.Frames.{given}
+
+-- ---- lists
+
+abbrev pub and_element : Option Value → Option Values → Option Values
+and_element (Some x) (Some xs) = Some (more x xs)
+and_element _ _ = None
+
+-- the elements, where none is Nothing
+abbrev pub elements : List (Option Value) → Option Values
+elements [] = Some none
+elements (x ∷ xs) = and_element x (elements xs)
+
+-- their list; an empty one carries no fill
+abbrev pub listed : Option Values → Result Value Fault
+listed None = Err NothingUsed
+listed (Some xs) = array (count xs ∷ []) xs None
+
+abbrev pub list_of : List (Option Value) → Does Value
+list_of xs = known (listed (elements xs))
+
+-- `[..]`: the list, called with `>`
+abbrev pub merged : Runs Spent State → List (Option Value) → Does Value
+merged h xs = list_of xs >>= (λ x. h (call (Given 13) None x))
+
+-- ---- blocks
+
+-- a block of this class waits for arguments
+abbrev pub waits : Class → Bool
+waits class.Function = true
+waits class.Mod1Deferred = true
+waits class.Mod2Deferred = true
+waits _ = false
+
+-- what a block gives where it stands
+abbrev pub standing : Class → (block environment : ℕ) → Call
+standing class.Immediate b e = Enter b e none no_arguments End
+standing class.Function b e = answer (Function b e none)
+standing class.Mod1 b e = answer (Modifier1 b e)
+standing class.Mod1Deferred b e = answer (Modifier1 b e)
+standing class.Mod2 b e = answer (Modifier2 b e)
+standing class.Mod2Deferred b e = answer (Modifier2 b e)
+
+-- ---- modifiers with their operands
+
+-- a block's modifier makes a function, where it waits for arguments, and else it is run
+abbrev pub block_with : Option Block → (block environment : ℕ) → Values → Call
+block_with None b e fs = call_fault NotCallable
+block_with (Some block) b e fs = if waits block.class then End (block_function b e fs) else Enter b e fs no_arguments End
+
+abbrev pub given_with : Bool → Maker → Values → Call
+given_with true maker fs = End (derived maker fs)
+given_with false maker fs = call_fault NotCallable
+
+abbrev pub with_one : List Block → (m f : Value) → Call
+with_one blocks (Given code) f = given_with (is_given_modifier1 code) (One code) (more f none)
+with_one blocks (Modifier1 b e) f = block_with (slice_get blocks b) b e (more f none)
+with_one blocks m f = call_fault NotCallable
+
+abbrev pub with_two : List Block → (m f g : Value) → Call
+with_two blocks (Given code) f g = given_with (is_given_modifier2 code) (Two code) (more f (more g none))
+with_two blocks (Modifier2 b e) f g = block_with (slice_get blocks b) b e (more f (more g none))
+with_two blocks m f g = call_fault NotCallable
+
+-- a part and a modifier, or two parts; Nothing as any of them is found before a wrong modifier
+abbrev pub modified_one : Runs Spent State → List Block → (m f : Option Value) → Does (Option Value)
+modified_one h blocks m f = used m >>= (λ m. used f >>= (λ f. h (with_one blocks m f) >>= given))
+
+abbrev pub modified_two : Runs Spent State → List Block → (m f g : Option Value) → Does (Option Value)
+modified_two h blocks m f g = used m >>= (λ m. used f >>= (λ f. used g >>= (λ g. h (with_two blocks m f g) >>= given)))
+
+-- ---- trains
+
+abbrev pub atop : (f g : Option Value) → Result Value Fault
+atop (Some f) (Some g) = derived Atop (more f (more g none))
+atop _ _ = Err NothingUsed
+
+-- Nothing on the left leaves the other two
+abbrev pub fork : (f g h : Option Value) → Result Value Fault
+fork None g h = atop g h
+fork (Some f) (Some g) (Some h) = derived Fork (more f (more g (more h none)))
+fork (Some f) _ _ = Err NothingUsed
+
+-- what the parts read so far, from the right, make: none, a function, or a function with one more part in front
+pub data Reading : Type 0 where
+  Unread : Reading
+  Read : Option Value → Reading
+  Behind : (g h : Option Value) → Reading
+
+abbrev pub as_read : Result Value Fault → Result Reading Fault
+as_read (Ok v) = Ok (Read (Some v))
+as_read (Err f) = Err f
+
+-- one more part in front
+abbrev pub and_part : Reading → Option Value → Result Reading Fault
+and_part Unread v = Ok (Read v)
+and_part (Read h) v = Ok (Behind v h)
+and_part (Behind g h) v = as_read (fork v g h)
+
+abbrev pub as_part : Result Value Fault → Result (Option Value) Fault
+as_part (Ok v) = Ok (Some v)
+as_part (Err f) = Err f
+
+-- the train, once all parts are read
+abbrev pub train : Reading → Result (Option Value) Fault
+train Unread = Ok None
+train (Read v) = Ok v
+train (Behind f g) = as_part (atop f g)
+
+-- ---- calls
+
+-- Nothing in function position is found first; as a right argument it is the answer, and no call is made
+abbrev pub applied : Runs Spent State → (f w x : Option Value) → Does (Option Value)
+applied h None w x = fault NothingUsed
+applied h (Some f) w None = pure None
+applied h (Some f) w (Some x) = h (call f w x) >>= given
