@@ -162,6 +162,16 @@ shows = refl
 arguments : elim (tree_of_text [] (codes "•args")) [ Err r ↦ refused r | Ok tree ↦ seen (evaluated_within 0 tree (codes "a" ∷ [] ∷ []) 1).outcome ] ≡ gives (list (list (Character 97 ∷ []) ∷ Array (0 ∷ []) none (filled (Character 32)) ∷ []))
 arguments = refl
 
+in_order : written (codes "(•Show 1){𝕗-𝕘}(•Show 2)") ∷ written (codes "(•Show 1){•Show 3⋄_m_⇐{𝕗-𝕘}}._m_(•Show 2)") ∷ written (codes "F←{•Show 1⋄F⇐+}.F{•Show 2⋄F⇐+}.F{•Show 3⋄F⇐+}.F") ∷ written (codes "{•Show 1⋄a⇐1}.a{•Show 2⋄F⇐-}.F{•Show 3⋄a⇐1}.a") ∷ written (codes "(•Show 1)‿(•Show 2)") ∷ written (codes "a←0⋄a{•Show 2⋄F⇐-}.F↩•Show 1") ∷ written (codes "(•Show 1){•Show 2⋄⟨F⟩⇐⟨∘⟩}.F+·") ∷ [] ≡
+    codes "2\n1\n" ∷ codes "2\n3\n1\n" ∷ codes "3\n2\n1\n" ∷ codes "3\n2\n1\n" ∷ codes "1\n2\n" ∷ codes "1\n2\n" ∷ codes "2\n1\n" ∷ []
+unfolding look define change digits encode
+in_order = refl
+
+-- `a F↩` reads `a` before its function, `a F↩ x` behind it
+reads : all (codes "a←1⋄a{a↩5⋄F⇐⊢}.F↩" ∷ codes "a←1⋄a{a↩5⋄F⇐-}.F↩1" ∷ []) ≡ gives (n 1) ∷ gives (n 4) ∷ []
+unfolding look define change
+reads = refl
+
 -- ---- lines of a session
 
 abbrev seen_line : Res Spent State (Result (Option Value) Fault) → (State → List Seen) → List Seen
