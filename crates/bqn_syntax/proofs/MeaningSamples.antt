@@ -1,5 +1,5 @@
 -- What programs mean, computed from their texts.
-use Rattle.std.proofs.Common.{◌≡◌, ℕ, zero, suc, pos, negsuc, List, [], ◌∷◌, map, Option, Some, None, Result, Ok, Err, refl}
+use Rattle.std.proofs.Common.{◌≡◌, false, ℕ, zero, suc, pos, negsuc, List, [], ◌∷◌, map, Option, Some, None, Result, Ok, Err, refl}
 use lib.Chars.{codes}
 use lib.Utf8.{encode}
 use Rattle.std.specs.Fmt.{digits}
@@ -12,10 +12,11 @@ use Rattle.bqn_base.specs.Running.{Res, Gives, Ends}
 use Rattle.bqn_syntax.specs.Tokens.{tokens_of_text}
 use Rattle.bqn_syntax.specs.Plain.{Stmts}
 use Rattle.bqn_syntax.specs.Parsing.{parsed}
-use Rattle.bqn_syntax.specs.Scope.{Use, resolved, names_of}
+use Rattle.bqn_syntax.specs.Scope.{scope, Use, resolved, names_of}
 use Rattle.bqn_syntax.specs.Bodies.{bodies_of}
 use Rattle.bqn_syntax.specs.Environments.{State, Spent, look, define, change}
-use Rattle.bqn_syntax.specs.Blocks.{Earlier, no_lines, further, table_of, all_bodies}
+use Rattle.bqn_syntax.specs.Blocks.{Numbered, Earlier, no_lines, further, table_of, all_bodies}
+use Rattle.bqn_syntax.specs.Actions.{◌>>=◌}
 use Rattle.bqn_syntax.specs.Meaning.{Outcome, Answers, Faults, IsSpent, evaluated_within, evaluated_of, line, at_start}
 
 -- the tree of a text behind the names of a session
@@ -105,10 +106,16 @@ no_value = refl
 
 -- ---- blocks that run where they stand, modifiers and trains
 
-blocks : all (codes "{1+2}" ∷ codes "{1⋄2}" ∷ codes "⟨{1},{2},{3}⟩" ∷ codes "({𝕩+1}2)-{𝕩×10}3" ∷ codes "F←{{𝕩+1}𝕩}⋄G←{𝕩×2}⋄⟨F 1,G 5⟩" ∷ codes "F←{𝕊 0: {10}; 𝕊 n: {n+{1}}}⋄⟨F 0,F 5,{7}⟩" ∷ codes "⟨F⟩←⟨{a←𝕩⋄{a+𝕩}}1⟩⋄F 4" ∷ codes "{𝕩⋄{𝕩}}1" ∷ codes "{𝕩{𝕨+𝕩}2}3" ∷ []) ≡
-    gives (n 3) ∷ gives (n 2) ∷ gives (list (n 1 ∷ n 2 ∷ n 3 ∷ [])) ∷ gives (m 27) ∷ gives (list (n 2 ∷ n 10 ∷ [])) ∷ gives (list (n 10 ∷ n 6 ∷ n 7 ∷ [])) ∷ gives (n 5) ∷ gives (Function 2 1 none) ∷ gives (n 5) ∷ []
+blocks : all (codes "{1+2}" ∷ codes "{1⋄2}" ∷ codes "⟨{1},{2},{3}⟩" ∷ codes "({𝕩+1}2)-{𝕩×10}3" ∷ codes "F←{{𝕩+1}𝕩}⋄G←{𝕩×2}⋄⟨F 1,G 5⟩" ∷ codes "F←{𝕊 0: {10}; 𝕊 n: {n+{1}}}⋄⟨F 0,F 5,{7}⟩" ∷ codes "⟨F⟩←⟨{a←𝕩⋄{a+𝕩}}1⟩⋄F 4" ∷ codes "{𝕩⋄{𝕩}}1" ∷ codes "{𝕩{𝕨+𝕩}2}3" ∷ codes "Make←{n←𝕩⋄{n↩n+𝕩}}⋄⟨F⟩←⟨Make 1⟩⋄⟨G⟩←⟨Make 10⟩⋄⟨F 1,G 1,F 1⟩" ∷ []) ≡
+    gives (n 3) ∷ gives (n 2) ∷ gives (list (n 1 ∷ n 2 ∷ n 3 ∷ [])) ∷ gives (m 27) ∷ gives (list (n 2 ∷ n 10 ∷ [])) ∷ gives (list (n 10 ∷ n 6 ∷ n 7 ∷ [])) ∷ gives (n 5) ∷ gives (Function 2 1 none) ∷ gives (n 5) ∷ gives (list (n 2 ∷ n 11 ∷ n 3 ∷ [])) ∷ []
 unfolding look define change
 blocks = refl
+
+-- a block in each place that a part of a program has
+each_place : all (codes "{10}{𝕨-𝕩}{2}" ∷ codes "{10}-{𝔽}{𝕨𝔽𝕩}{2}" ∷ codes "{10}{𝕨-𝕩}{𝕨𝔾𝔽𝕩}{𝕨×𝕩}{2}" ∷ codes "{10}({𝕨+𝕩}{𝕨-𝕩}{𝕨×𝕩}){2}" ∷ codes "a←{1}⋄a{𝕨-𝕩}{𝔽}↩{5}" ∷ codes "a←{1}⋄a{𝕩-7}{𝔽}↩" ∷ codes "{1}{𝕨-𝕩}{2}{𝕨+𝕩}{3}" ∷ codes "{{0}?{1};{1}?{5};{6}}" ∷ codes "⟨{1},{2}‿{3}‿{4},({5})⟩" ∷ codes "{p⇐{4}}.p-{q⇐{9}}.q" ∷ codes "{1}⋄{2}⋄{3}" ∷ codes "{{7}+𝕩}{𝔽{𝔽𝕩}{2}}1" ∷ codes "a‿b←⟨{1},{2}⟩⋄F←{𝕩+a}⋄_m←{𝔽𝕩}⋄F _m{b}" ∷ []) ≡
+    gives (n 8) ∷ gives (n 8) ∷ gives (m 20) ∷ gives (m 8) ∷ gives (m 4) ∷ gives (m 6) ∷ gives (m 4) ∷ gives (n 5) ∷ gives (list (n 1 ∷ list (n 2 ∷ n 3 ∷ n 4 ∷ []) ∷ n 5 ∷ [])) ∷ gives (m 5) ∷ gives (n 3) ∷ gives (n 9) ∷ gives (n 3) ∷ []
+unfolding look define change
+each_place = refl
 
 modifiers : all (codes "-{𝔽}3" ∷ codes "-{𝔽𝕩}3" ∷ codes "2{𝕗+1}" ∷ codes "-{𝔽𝔾𝕩}×¯5" ∷ codes "4-{𝕨𝔽𝔾𝕩}×¯5" ∷ codes "2{𝕗-𝕘}5" ∷ codes "{𝕩+1}{𝔽𝔽𝕩}5" ∷ codes "-{𝔽}{𝔽𝔽𝕩}5" ∷ codes "⟨_m⟩←⟨∘⟩⋄-_m 1" ∷ codes "_m←{𝔽𝕩}⋄-_m 1" ∷ codes "_m_←{𝔽𝔾𝕩}⋄-_m_- 1" ∷ codes "-{𝕩=0? 𝔽 0; 𝕩=9? 1; 𝔽 _𝕣 9}3" ∷ []) ≡
     gives (m 3) ∷ gives (m 3) ∷ gives (n 3) ∷ gives (n 1) ∷ gives (n 5) ∷ gives (m 3) ∷ gives (n 7) ∷ gives (n 5) ∷ fails NotCallable ∷ gives (m 1) ∷ gives (n 1) ∷ gives (n 1) ∷ []
@@ -122,8 +129,8 @@ trains = refl
 
 -- ---- namespaces, patterns, lists and texts
 
-namespaces : all (codes "ns←{x⇐3⋄Inc⇐{𝕩+x}}⋄ns.Inc 4" ∷ codes "{p⇐4}.q" ∷ codes "5 .q" ∷ codes "F←{𝕊 0: {p⇐10}; 𝕊 n: {q⇐n}}⋄⟨(F 0).p,(F 5).q⟩" ∷ codes "{a⇐{b⇐2}}.a.b" ∷ codes "ns←{a⇐⋄a←1⋄b←2}⋄ns.a" ∷ codes "ns←{a⇐⋄a←1⋄b←2}⋄ns.b" ∷ codes "ns←{a⇐1⋄F⇐{a↩𝕩}}⋄ns.F 7⋄ns.a" ∷ codes "{a⇐1⋄+·}.a" ∷ codes "{⟨⟩⇐}" ∷ codes "{·⇐}" ∷ codes "a⇐1" ∷ codes "{⟨⟩⇐⟨⟩}" ∷ []) ≡
-    gives (n 7) ∷ fails NoField ∷ fails NoField ∷ gives (list (n 10 ∷ n 5 ∷ [])) ∷ gives (n 2) ∷ gives (n 1) ∷ fails NoField ∷ gives (n 7) ∷ gives (n 1) ∷ gives (Namespace 1) ∷ gives (Namespace 1) ∷ gives (Namespace 0) ∷ gives (Namespace 1) ∷ []
+namespaces : all (codes "ns←{x⇐3⋄Inc⇐{𝕩+x}}⋄ns.Inc 4" ∷ codes "{p⇐4}.q" ∷ codes "5 .q" ∷ codes "F←{𝕊 0: {p⇐10}; 𝕊 n: {q⇐n}}⋄⟨(F 0).p,(F 5).q⟩" ∷ codes "{a⇐{b⇐2}}.a.b" ∷ codes "ns←{a⇐⋄a←1⋄b←2}⋄ns.a" ∷ codes "ns←{a⇐⋄a←1⋄b←2}⋄ns.b" ∷ codes "ns←{a⇐1⋄F⇐{a↩𝕩}}⋄ns.F 7⋄ns.a" ∷ codes "{a⇐1⋄+·}.a" ∷ codes "{⟨⟩⇐}" ∷ codes "{·⇐}" ∷ codes "a⇐1" ∷ codes "{⟨⟩⇐⟨⟩}" ∷ codes "{0?1;q⇐2}" ∷ []) ≡
+    gives (n 7) ∷ fails NoField ∷ fails NoField ∷ gives (list (n 10 ∷ n 5 ∷ [])) ∷ gives (n 2) ∷ gives (n 1) ∷ fails NoField ∷ gives (n 7) ∷ gives (n 1) ∷ gives (Namespace 1) ∷ gives (Namespace 1) ∷ gives (Namespace 0) ∷ gives (Namespace 1) ∷ gives (Namespace 2) ∷ []
 unfolding look define change
 namespaces = refl
 
@@ -195,8 +202,8 @@ further_blocks : lines 50 (codes "F←{𝕩+1}⋄a←{5}" ∷ codes "G←{𝕩×
 unfolding look define change
 further_blocks = refl
 
-stored_so_far : lines 50 (codes "a←0⋄b←0" ∷ codes "⟨a,⟨b⟩⟩↩⟨1,2⟩" ∷ codes "a" ∷ codes "⟨a,b⟩↩5‿6‿7" ∷ codes "a" ∷ codes "⟨a,a⟩↩{a⇐3⋄b⇐4}" ∷ codes "a" ∷ []) ≡
-    gives (n 0) ∷ fails Pattern ∷ gives (n 1) ∷ fails Pattern ∷ gives (n 1) ∷ gives (Namespace 1) ∷ gives (n 3) ∷ []
+stored_so_far : lines 50 (codes "a←0⋄b←0⋄c←0" ∷ codes "⟨a,⟨b⟩⟩↩⟨1,2⟩" ∷ codes "a" ∷ codes "⟨a,b⟩↩5‿6‿7" ∷ codes "a" ∷ codes "⟨a,a⟩↩{a⇐3⋄b⇐4}" ∷ codes "a" ∷ codes "⟨a,c⟩↩{a⇐9}" ∷ codes "a" ∷ []) ≡
+    gives (n 0) ∷ fails Pattern ∷ gives (n 1) ∷ fails Pattern ∷ gives (n 1) ∷ gives (Namespace 1) ∷ gives (n 3) ∷ fails NoField ∷ gives (n 3) ∷ []
 unfolding look define change
 stored_so_far = refl
 
@@ -204,6 +211,23 @@ further_bodies : lines 50 (codes "n←{p⇐1}" ∷ codes "m←{q⇐2;𝕩}0" ∷
     gives (Namespace 1) ∷ gives (Namespace 2) ∷ gives (list (n 2 ∷ n 1 ∷ [])) ∷ gives (Namespace 0) ∷ []
 unfolding look define change
 further_bodies = refl
+
+-- ---- an environment is of use to the body for which it was made
+
+abbrev a_of : ℕ → List Numbered
+a_of number = record { number = number; scope = scope (codes "a" ∷ []) [] [] false } ∷ []
+
+abbrev read_after_store : (stored read : ℕ) → Res Spent State (Result Value Fault)
+read_after_store stored read = (define (a_of stored) 0 (codes "a") (n 5) >>= (λ u. look (a_of read) 0 (codes "a"))) (at_start 1)
+
+abbrev answer : Res Spent State (Result Value Fault) → Seen
+answer (Gives (Ok v) s) = gives v
+answer (Gives (Err f) s) = fails f
+answer (Ends s) = spent
+
+own_body : answer (read_after_store 0 0) ∷ answer (read_after_store 0 1) ∷ answer (read_after_store 1 0) ∷ [] ≡ gives (n 5) ∷ fails Undefined ∷ fails Undefined ∷ []
+unfolding look define
+own_body = refl
 
 -- ---- the numbers of blocks and bodies
 
