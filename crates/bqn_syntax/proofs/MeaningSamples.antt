@@ -8,7 +8,8 @@ use Rattle.bqn_base.specs.declared.fault.Fault.TheVariants.{Domain, DivideByZero
 use Rattle.bqn_base.specs.declared.refusal.Refusal.{Refusal}
 use Rattle.bqn_base.specs.declared.refusal.Refusal.TheVariants.{Undeclared}
 use Rattle.bqn_base.specs.Plain.{Value, Number, Character, Array, Given, Function, Namespace, none, values, count, unfilled, filled}
-use Rattle.bqn_base.specs.Running.{Res, Gives, Ends}
+use Rattle.bqn_base.specs.Running.{Res, Gives, Ends, calls as calls_run}
+use Rattle.bqn_base.specs.Calls.{Turn, answer}
 use Rattle.bqn_syntax.specs.Tokens.{tokens_of_text}
 use Rattle.bqn_syntax.specs.Plain.{Stmts}
 use Rattle.bqn_syntax.specs.Parsing.{parsed}
@@ -17,7 +18,7 @@ use Rattle.bqn_syntax.specs.Bodies.{bodies_of}
 use Rattle.bqn_syntax.specs.Environments.{State, Spent, look, define, change}
 use Rattle.bqn_syntax.specs.Blocks.{Numbered, Earlier, no_lines, further, table_of, all_bodies}
 use Rattle.bqn_syntax.specs.Actions.{◌>>=◌}
-use Rattle.bqn_syntax.specs.Meaning.{Outcome, Answers, Faults, IsSpent, evaluated_within, evaluated_of, line, at_start}
+use Rattle.bqn_syntax.specs.Meaning.{Outcome, Answers, Faults, IsSpent, evaluated_within, evaluated_of, replies, line, at_start}
 
 -- the tree of a text behind the names of a session
 abbrev resolved_tree : Stmts → Result (List Use) Refusal → Result Stmts Refusal
@@ -40,6 +41,11 @@ seen (Answers None) = nothing
 seen (Answers (Some v)) = gives v
 seen (Faults f) = fails f
 seen IsSpent = spent
+
+abbrev seen_call : Res Spent State (Result Value Fault) → Seen
+seen_call (Gives (Ok v) s) = gives v
+seen_call (Gives (Err f) s) = fails f
+seen_call (Ends s) = spent
 
 abbrev limited : (room steps : ℕ) → List ℕ → Seen
 limited room steps text = elim (tree_of_text [] text) [ Err r ↦ refused r | Ok tree ↦ seen (evaluated_within room tree [] steps).outcome ]
@@ -75,8 +81,8 @@ calls : all (codes "F←{𝕩+1}⋄F 2" ∷ codes "F←{𝕨-𝕩}⋄5 F 2" ∷ 
 unfolding look define change
 calls = refl
 
-headers : all (codes "Fact←{𝕊 0: 1; 𝕊 n: n×𝕊 n-1}⋄Fact 5" ∷ codes "{𝕊 0: 1}5" ∷ codes "1‿2{⟨x,y⟩𝕊z: x+y+z}3" ∷ codes "1‿2‿3{⟨x,y⟩𝕊z: x; w 𝕊 z: z}9" ∷ codes "\"ab\"{\"ab\"𝕊·: 1; 𝕨𝕊𝕩: 2}0" ∷ codes "\"ac\"{\"ab\"𝕊·: 1; 𝕨𝕊𝕩: 2}0" ∷ codes "{𝕊⟨p⟩: p; 𝕊x: 0}{p⇐4}" ∷ codes "{𝕊⟨p⟩: p; 𝕊x: 0}{q⇐4}" ∷ codes "{𝕊⟨p,·⟩: p; 𝕊x: 0}{p⇐4}" ∷ codes "{F𝕩: 𝕩=0? 0; F𝕩: 1+F 𝕩-1}3" ∷ codes "-{F _m x: F x}3" ∷ codes "2{f _m_ g: f-g}5" ∷ codes "{𝕊⟨1,⟨a⟩⟩: a; 𝕊x: 0}⟨1,⟨7⟩⟩" ∷ codes "{𝕊⟨1,⟨a⟩⟩: a; 𝕊x: 0}⟨1,7⟩" ∷ []) ≡
-    gives (n 120) ∷ fails NoBody ∷ gives (n 6) ∷ gives (n 9) ∷ gives (n 1) ∷ gives (n 2) ∷ gives (n 4) ∷ gives (n 0) ∷ gives (n 0) ∷ gives (n 3) ∷ gives (m 3) ∷ gives (m 3) ∷ gives (n 7) ∷ gives (n 0) ∷ []
+headers : all (codes "Fact←{𝕊 0: 1; 𝕊 n: n×𝕊 n-1}⋄Fact 5" ∷ codes "{𝕊 0: 1}5" ∷ codes "1‿2{⟨x,y⟩𝕊z: x+y+z}3" ∷ codes "1‿2‿3{⟨x,y⟩𝕊z: x; w 𝕊 z: z}9" ∷ codes "\"ab\"{\"ab\"𝕊·: 1; 𝕨𝕊𝕩: 2}0" ∷ codes "\"ac\"{\"ab\"𝕊·: 1; 𝕨𝕊𝕩: 2}0" ∷ codes "{𝕊⟨p⟩: p; 𝕊x: 0}{p⇐4}" ∷ codes "{𝕊⟨p⟩: p; 𝕊x: 0}{q⇐4}" ∷ codes "{𝕊⟨p,·⟩: p; 𝕊x: 0}{p⇐4}" ∷ codes "{F𝕩: 𝕩=0? 0; F𝕩: 1+F 𝕩-1}3" ∷ codes "-{F _m x: F x}3" ∷ codes "-{F _m x: x=0? 7; F _m x: F _m 0}3" ∷ codes "-{F _m_ g x: x=0? 7; F _m_ g x: F _m_ g 0}5 3" ∷ codes "2{f _m_ g: f-g}5" ∷ codes "{𝕊⟨1,⟨a⟩⟩: a; 𝕊x: 0}⟨1,⟨7⟩⟩" ∷ codes "{𝕊⟨1,⟨a⟩⟩: a; 𝕊x: 0}⟨1,7⟩" ∷ []) ≡
+    gives (n 120) ∷ fails NoBody ∷ gives (n 6) ∷ gives (n 9) ∷ gives (n 1) ∷ gives (n 2) ∷ gives (n 4) ∷ gives (n 0) ∷ gives (n 0) ∷ gives (n 3) ∷ gives (m 3) ∷ gives (n 7) ∷ gives (n 7) ∷ gives (m 3) ∷ gives (n 7) ∷ gives (n 0) ∷ []
 unfolding look define change
 headers = refl
 
@@ -99,7 +105,7 @@ undefined = refl
 
 -- ---- Nothing
 
-no_value : all (codes "+·" ∷ codes "(+·)" ∷ codes "+·⋄1" ∷ codes "(+·)-3" ∷ codes "·-3" ∷ codes "2-+·" ∷ codes "⟨F⟩←⟨∘⟩⋄F ·" ∷ codes "a←+·" ∷ codes "F←{𝕎}⋄F 1" ∷ codes "⟨+·⟩" ∷ codes "1‿(+·)" ∷ codes "[+·]" ∷ codes "{+·}" ∷ codes "{+·⋄1}" ∷ codes "{𝕎𝕩}1" ∷ codes "{𝕎·}1" ∷ codes "{𝕨.a}1" ∷ codes "-{𝔽𝕩}·" ∷ codes "{𝕎˜𝕩}1" ∷ codes "⟨_m⟩←⟨5⟩⋄(+·)_m 1" ∷ codes "⟨_m⟩←⟨5⟩⋄+_m 1" ∷ []) ≡
+no_value : all (codes "+·" ∷ codes "(+·)" ∷ codes "+·⋄1" ∷ codes "(+·)-3" ∷ codes "·-3" ∷ codes "2-+·" ∷ codes "⟨F⟩←⟨∘⟩⋄F ·" ∷ codes "a←+·" ∷ codes "F←{𝕎}⋄F 1" ∷ codes "⟨+·⟩" ∷ codes "1‿(+·)" ∷ codes "[+·]" ∷ codes "{+·}" ∷ codes "{+·⋄1}" ∷ codes "{𝕎𝕩}1" ∷ codes "{𝕎·⋄1}1" ∷ codes "{𝕨.a}1" ∷ codes "-{𝔽𝕩}·" ∷ codes "{𝕎˜𝕩}1" ∷ codes "⟨_m⟩←⟨5⟩⋄(+·)_m 1" ∷ codes "⟨_m⟩←⟨5⟩⋄+_m 1" ∷ []) ≡
     nothing ∷ nothing ∷ gives (n 1) ∷ gives (m 3) ∷ gives (m 3) ∷ nothing ∷ nothing ∷ fails NothingUsed ∷ fails NothingUsed ∷ fails NothingUsed ∷ fails NothingUsed ∷ fails NothingUsed ∷ fails NothingUsed ∷ gives (n 1) ∷ fails NothingUsed ∷ fails NothingUsed ∷ fails NothingUsed ∷ nothing ∷ fails NothingUsed ∷ fails NothingUsed ∷ fails NotCallable ∷ []
 unfolding look define change
 no_value = refl
@@ -150,6 +156,13 @@ budget : budgets (codes "1") ∷ budgets (codes "") ∷ budgets (codes "{1}") �
     (spent ∷ gives (n 1) ∷ gives (n 1) ∷ gives (n 1) ∷ []) ∷ (spent ∷ nothing ∷ nothing ∷ nothing ∷ []) ∷ (spent ∷ spent ∷ gives (n 1) ∷ gives (n 1) ∷ []) ∷ (spent ∷ spent ∷ spent ∷ gives (n 2) ∷ []) ∷ (spent ∷ spent ∷ gives (n 3) ∷ gives (n 3) ∷ []) ∷ (spent ∷ fails NoBody ∷ fails NoBody ∷ fails NoBody ∷ []) ∷ (spent ∷ spent ∷ spent ∷ fails DivideByZero ∷ []) ∷ (spent ∷ spent ∷ gives (n 2) ∷ gives (n 2) ∷ []) ∷ (spent ∷ spent ∷ gives (m 3) ∷ gives (m 3) ∷ []) ∷ []
 unfolding look define change
 budget = refl
+
+abbrev turned : (steps : ℕ) → Res Spent State (Result Value Fault)
+turned steps = calls_run (replies (record { blocks = []; args = n 0 })) 0 (Turn (λ u. answer (n 1))) (at_start steps)
+
+-- a turn is a step
+turns : seen_call (turned 0) ∷ seen_call (turned 1) ∷ [] ≡ spent ∷ gives (n 1) ∷ []
+turns = refl
 
 -- one more open call than there is room for is found before its step
 open_calls : limited 0 1 (codes "{1}") ∷ limited 1 1 (codes "{1}") ∷ limited 1 2 (codes "{1}") ∷ limited 1 9 (codes "{{1}}") ∷ limited 2 9 (codes "{{1}}") ∷ limited 0 1 (codes "2{𝕗}") ∷ limited 0 1 (codes "{𝕩}1") ∷ limited 0 1 (codes "-{𝔽𝕩}1") ∷ limited 0 1 (codes "(+-×)2") ∷ limited 1 1 (codes "(+-×)2") ∷ limited 0 1 (codes "-×2") ∷ limited 0 1 (codes "{𝕩}·") ∷ limited 3 4 (codes "{𝕊𝕩}0") ∷ limited 3 3 (codes "{𝕊𝕩}0") ∷ limited 1000 100 (codes "{𝕊𝕩}0") ∷ limited 20 100 (codes "F←{𝕊 0: 0; 𝕊 x: 1+F x-1}⋄F 19") ∷ limited 20 100 (codes "F←{𝕊 0: 0; 𝕊 x: 1+F x-1}⋄F 20") ∷ [] ≡
@@ -220,12 +233,7 @@ a_of number = record { number = number; scope = scope (codes "a" ∷ []) [] [] f
 abbrev read_after_store : (stored read : ℕ) → Res Spent State (Result Value Fault)
 read_after_store stored read = (define (a_of stored) 0 (codes "a") (n 5) >>= (λ u. look (a_of read) 0 (codes "a"))) (at_start 1)
 
-abbrev answer : Res Spent State (Result Value Fault) → Seen
-answer (Gives (Ok v) s) = gives v
-answer (Gives (Err f) s) = fails f
-answer (Ends s) = spent
-
-own_body : answer (read_after_store 0 0) ∷ answer (read_after_store 0 1) ∷ answer (read_after_store 1 0) ∷ [] ≡ gives (n 5) ∷ fails Undefined ∷ fails Undefined ∷ []
+own_body : seen_call (read_after_store 0 0) ∷ seen_call (read_after_store 0 1) ∷ seen_call (read_after_store 1 0) ∷ [] ≡ gives (n 5) ∷ fails Undefined ∷ fails Undefined ∷ []
 unfolding look define
 own_body = refl
 
