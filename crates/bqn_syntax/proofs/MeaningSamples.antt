@@ -93,8 +93,8 @@ predicates = refl
 
 -- ---- order and variables
 
-order : all (codes "" ∷ codes "10-2-3" ∷ codes "a←1⋄a-a↩5" ∷ codes "a←1⋄⟨a,a↩2,a⟩" ∷ codes "a←1⋄a-{a↩7⋄𝔽}1" ∷ codes "a +↩ a←1" ∷ codes "a←3⋄a -↩" ∷ codes "a←3⋄1+a -↩" ∷ codes "F←G←-⋄F G 3" ∷ codes "a←1⋄{a←2}⋄a" ∷ codes "a←1⋄{a↩2}⋄a" ∷ codes "a←1⋄F←{𝕩⋄a}⋄a↩2⋄F 0" ∷ []) ≡
-    nothing ∷ gives (n 11) ∷ gives (n 0) ∷ gives (list (n 1 ∷ n 2 ∷ n 2 ∷ [])) ∷ gives (n 6) ∷ gives (n 2) ∷ gives (m 3) ∷ gives (m 2) ∷ gives (n 3) ∷ gives (n 1) ∷ gives (n 2) ∷ gives (n 2) ∷ []
+order : all (codes "" ∷ codes "10-2-3" ∷ codes "a←1⋄a-a↩5" ∷ codes "a←1⋄⟨a,a↩2,a⟩" ∷ codes "a←1⋄a-{a↩7⋄𝔽}1" ∷ codes "a +↩ a←1" ∷ codes "a←3⋄a -↩" ∷ codes "a←3⋄1+a -↩" ∷ codes "F←G←-⋄F G 3" ∷ codes "a←1⋄{a←2}⋄a" ∷ codes "a←1⋄{a↩2}⋄a" ∷ codes "a←1⋄F←{𝕩⋄a}⋄a↩2⋄F 0" ∷ codes "a←1⋄{a +↩ 5}⋄a" ∷ codes "a←2⋄{𝕊 0: a; 𝕊 x: 𝕊 x-1}3" ∷ codes "a←2⋄-{𝕩=0? 𝔽a; 𝔽 _𝕣 0}3" ∷ []) ≡
+    nothing ∷ gives (n 11) ∷ gives (n 0) ∷ gives (list (n 1 ∷ n 2 ∷ n 2 ∷ [])) ∷ gives (n 6) ∷ gives (n 2) ∷ gives (m 3) ∷ gives (m 2) ∷ gives (n 3) ∷ gives (n 1) ∷ gives (n 2) ∷ gives (n 2) ∷ gives (n 6) ∷ gives (n 2) ∷ gives (m 2) ∷ []
 unfolding look define change
 order = refl
 
@@ -128,8 +128,8 @@ modifiers : all (codes "-{𝔽}3" ∷ codes "-{𝔽𝕩}3" ∷ codes "2{𝕗+1}"
 unfolding look define change
 modifiers = refl
 
-trains : all (codes "5(+-×)2" ∷ codes "(-×)3" ∷ codes "(3-⊢)5" ∷ codes "(·-⊢)5" ∷ codes "{(𝕨-⊢)𝕩}5" ∷ codes "2{(𝕨-⊢)𝕩}5" ∷ codes "5(+-×-⊢)2" ∷ codes "5(-+×⊢)2" ∷ codes "{(-𝕎⊢)𝕩}5" ∷ codes "{(𝕎⊢)𝕩}5" ∷ codes "{(𝕎-⊢)𝕩}5" ∷ codes "{(+-⊢𝕎-)𝕩}5" ∷ codes "{(-𝕎-⊢)𝕩}5" ∷ []) ≡
-    gives (m 3) ∷ gives (m 1) ∷ gives (m 2) ∷ gives (m 5) ∷ gives (m 5) ∷ gives (m 3) ∷ gives (m 1) ∷ gives (m 14) ∷ fails NothingUsed ∷ fails NothingUsed ∷ gives (m 5) ∷ fails NothingUsed ∷ gives (n 5) ∷ []
+trains : all (codes "5(+-×)2" ∷ codes "(-×)3" ∷ codes "(3-⊢)5" ∷ codes "(·-⊢)5" ∷ codes "{(𝕨-⊢)𝕩}5" ∷ codes "2{(𝕨-⊢)𝕩}5" ∷ codes "5(+-×-⊢)2" ∷ codes "5(-+×⊢)2" ∷ codes "{(-𝕎⊢)𝕩}5" ∷ codes "{(𝕎⊢)𝕩}5" ∷ codes "{(𝕎-⊢)𝕩}5" ∷ codes "{(+-⊢𝕎-)𝕩}5" ∷ codes "{(-𝕎-⊢)𝕩}5" ∷ codes "{(+-𝕎)𝕩}5" ∷ []) ≡
+    gives (m 3) ∷ gives (m 1) ∷ gives (m 2) ∷ gives (m 5) ∷ gives (m 5) ∷ gives (m 3) ∷ gives (m 1) ∷ gives (m 14) ∷ fails NothingUsed ∷ fails NothingUsed ∷ gives (m 5) ∷ fails NothingUsed ∷ gives (n 5) ∷ fails NothingUsed ∷ []
 unfolding look define change
 trains = refl
 
