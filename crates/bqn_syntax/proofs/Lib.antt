@@ -6,3 +6,4 @@ mod GrammarSamples
 mod BracketSamples
 mod ScopeSamples
 mod MeaningSamples
+pub mod BlockNumbers

@@ -1,5 +1,5 @@
 -- What programs mean, computed from their texts.
-use Rattle.std.proofs.Common.{◌≡◌, ℕ, zero, suc, pos, negsuc, List, [], ◌∷◌, map, Option, Some, None, Result, Ok, Err, refl}
+use Rattle.std.proofs.Common.{◌≡◌, false, ℕ, zero, suc, pos, negsuc, List, [], ◌∷◌, map, Option, Some, None, Result, Ok, Err, refl}
 use lib.Chars.{codes}
 use lib.Utf8.{encode}
 use Rattle.std.specs.Fmt.{digits}
@@ -8,15 +8,17 @@ use Rattle.bqn_base.specs.declared.fault.Fault.TheVariants.{Domain, DivideByZero
 use Rattle.bqn_base.specs.declared.refusal.Refusal.{Refusal}
 use Rattle.bqn_base.specs.declared.refusal.Refusal.TheVariants.{Undeclared}
 use Rattle.bqn_base.specs.Plain.{Value, Number, Character, Array, Given, Function, Namespace, none, values, count, unfilled, filled}
-use Rattle.bqn_base.specs.Running.{Res, Gives, Ends}
+use Rattle.bqn_base.specs.Running.{Res, Gives, Ends, calls as calls_run}
+use Rattle.bqn_base.specs.Calls.{Turn, answer}
 use Rattle.bqn_syntax.specs.Tokens.{tokens_of_text}
 use Rattle.bqn_syntax.specs.Plain.{Stmts}
 use Rattle.bqn_syntax.specs.Parsing.{parsed}
-use Rattle.bqn_syntax.specs.Scope.{Use, resolved, names_of}
+use Rattle.bqn_syntax.specs.Scope.{scope, Use, resolved, names_of}
 use Rattle.bqn_syntax.specs.Bodies.{bodies_of}
 use Rattle.bqn_syntax.specs.Environments.{State, Spent, look, define, change}
-use Rattle.bqn_syntax.specs.Blocks.{Earlier, no_lines, further, table_of, all_bodies}
-use Rattle.bqn_syntax.specs.Meaning.{Outcome, Answers, Faults, IsSpent, evaluated_within, evaluated_of, line, at_start}
+use Rattle.bqn_syntax.specs.Blocks.{Numbered, Earlier, no_lines, further, table_of, all_bodies}
+use Rattle.bqn_syntax.specs.Actions.{◌>>=◌}
+use Rattle.bqn_syntax.specs.Meaning.{Outcome, Answers, Faults, IsSpent, evaluated_within, evaluated_of, replies, line, at_start}
 
 -- the tree of a text behind the names of a session
 abbrev resolved_tree : Stmts → Result (List Use) Refusal → Result Stmts Refusal
@@ -39,6 +41,11 @@ seen (Answers None) = nothing
 seen (Answers (Some v)) = gives v
 seen (Faults f) = fails f
 seen IsSpent = spent
+
+abbrev seen_call : Res Spent State (Result Value Fault) → Seen
+seen_call (Gives (Ok v) s) = gives v
+seen_call (Gives (Err f) s) = fails f
+seen_call (Ends s) = spent
 
 abbrev limited : (room steps : ℕ) → List ℕ → Seen
 limited room steps text = elim (tree_of_text [] text) [ Err r ↦ refused r | Ok tree ↦ seen (evaluated_within room tree [] steps).outcome ]
@@ -74,8 +81,8 @@ calls : all (codes "F←{𝕩+1}⋄F 2" ∷ codes "F←{𝕨-𝕩}⋄5 F 2" ∷ 
 unfolding look define change
 calls = refl
 
-headers : all (codes "Fact←{𝕊 0: 1; 𝕊 n: n×𝕊 n-1}⋄Fact 5" ∷ codes "{𝕊 0: 1}5" ∷ codes "1‿2{⟨x,y⟩𝕊z: x+y+z}3" ∷ codes "1‿2‿3{⟨x,y⟩𝕊z: x; w 𝕊 z: z}9" ∷ codes "\"ab\"{\"ab\"𝕊·: 1; 𝕨𝕊𝕩: 2}0" ∷ codes "\"ac\"{\"ab\"𝕊·: 1; 𝕨𝕊𝕩: 2}0" ∷ codes "{𝕊⟨p⟩: p; 𝕊x: 0}{p⇐4}" ∷ codes "{𝕊⟨p⟩: p; 𝕊x: 0}{q⇐4}" ∷ codes "{𝕊⟨p,·⟩: p; 𝕊x: 0}{p⇐4}" ∷ codes "{F𝕩: 𝕩=0? 0; F𝕩: 1+F 𝕩-1}3" ∷ codes "-{F _m x: F x}3" ∷ codes "2{f _m_ g: f-g}5" ∷ codes "{𝕊⟨1,⟨a⟩⟩: a; 𝕊x: 0}⟨1,⟨7⟩⟩" ∷ codes "{𝕊⟨1,⟨a⟩⟩: a; 𝕊x: 0}⟨1,7⟩" ∷ []) ≡
-    gives (n 120) ∷ fails NoBody ∷ gives (n 6) ∷ gives (n 9) ∷ gives (n 1) ∷ gives (n 2) ∷ gives (n 4) ∷ gives (n 0) ∷ gives (n 0) ∷ gives (n 3) ∷ gives (m 3) ∷ gives (m 3) ∷ gives (n 7) ∷ gives (n 0) ∷ []
+headers : all (codes "Fact←{𝕊 0: 1; 𝕊 n: n×𝕊 n-1}⋄Fact 5" ∷ codes "{𝕊 0: 1}5" ∷ codes "1‿2{⟨x,y⟩𝕊z: x+y+z}3" ∷ codes "1‿2‿3{⟨x,y⟩𝕊z: x; w 𝕊 z: z}9" ∷ codes "\"ab\"{\"ab\"𝕊·: 1; 𝕨𝕊𝕩: 2}0" ∷ codes "\"ac\"{\"ab\"𝕊·: 1; 𝕨𝕊𝕩: 2}0" ∷ codes "{𝕊⟨p⟩: p; 𝕊x: 0}{p⇐4}" ∷ codes "{𝕊⟨p⟩: p; 𝕊x: 0}{q⇐4}" ∷ codes "{𝕊⟨p,·⟩: p; 𝕊x: 0}{p⇐4}" ∷ codes "{F𝕩: 𝕩=0? 0; F𝕩: 1+F 𝕩-1}3" ∷ codes "-{F _m x: F x}3" ∷ codes "-{F _m x: x=0? 7; F _m x: F _m 0}3" ∷ codes "-{F _m_ g x: x=0? 7; F _m_ g x: F _m_ g 0}5 3" ∷ codes "2{f _m_ g: f-g}5" ∷ codes "{𝕊⟨1,⟨a⟩⟩: a; 𝕊x: 0}⟨1,⟨7⟩⟩" ∷ codes "{𝕊⟨1,⟨a⟩⟩: a; 𝕊x: 0}⟨1,7⟩" ∷ []) ≡
+    gives (n 120) ∷ fails NoBody ∷ gives (n 6) ∷ gives (n 9) ∷ gives (n 1) ∷ gives (n 2) ∷ gives (n 4) ∷ gives (n 0) ∷ gives (n 0) ∷ gives (n 3) ∷ gives (m 3) ∷ gives (n 7) ∷ gives (n 7) ∷ gives (m 3) ∷ gives (n 7) ∷ gives (n 0) ∷ []
 unfolding look define change
 headers = refl
 
@@ -86,8 +93,8 @@ predicates = refl
 
 -- ---- order and variables
 
-order : all (codes "" ∷ codes "10-2-3" ∷ codes "a←1⋄a-a↩5" ∷ codes "a←1⋄⟨a,a↩2,a⟩" ∷ codes "a←1⋄a-{a↩7⋄𝔽}1" ∷ codes "a +↩ a←1" ∷ codes "a←3⋄a -↩" ∷ codes "a←3⋄1+a -↩" ∷ codes "F←G←-⋄F G 3" ∷ codes "a←1⋄{a←2}⋄a" ∷ codes "a←1⋄{a↩2}⋄a" ∷ codes "a←1⋄F←{𝕩⋄a}⋄a↩2⋄F 0" ∷ []) ≡
-    nothing ∷ gives (n 11) ∷ gives (n 0) ∷ gives (list (n 1 ∷ n 2 ∷ n 2 ∷ [])) ∷ gives (n 6) ∷ gives (n 2) ∷ gives (m 3) ∷ gives (m 2) ∷ gives (n 3) ∷ gives (n 1) ∷ gives (n 2) ∷ gives (n 2) ∷ []
+order : all (codes "" ∷ codes "10-2-3" ∷ codes "a←1⋄a-a↩5" ∷ codes "a←1⋄⟨a,a↩2,a⟩" ∷ codes "a←1⋄a-{a↩7⋄𝔽}1" ∷ codes "a +↩ a←1" ∷ codes "a←3⋄a -↩" ∷ codes "a←3⋄1+a -↩" ∷ codes "F←G←-⋄F G 3" ∷ codes "a←1⋄{a←2}⋄a" ∷ codes "a←1⋄{a↩2}⋄a" ∷ codes "a←1⋄F←{𝕩⋄a}⋄a↩2⋄F 0" ∷ codes "a←1⋄{a +↩ 5}⋄a" ∷ codes "a←2⋄{𝕊 0: a; 𝕊 x: 𝕊 x-1}3" ∷ codes "a←2⋄-{𝕩=0? 𝔽a; 𝔽 _𝕣 0}3" ∷ []) ≡
+    nothing ∷ gives (n 11) ∷ gives (n 0) ∷ gives (list (n 1 ∷ n 2 ∷ n 2 ∷ [])) ∷ gives (n 6) ∷ gives (n 2) ∷ gives (m 3) ∷ gives (m 2) ∷ gives (n 3) ∷ gives (n 1) ∷ gives (n 2) ∷ gives (n 2) ∷ gives (n 6) ∷ gives (n 2) ∷ gives (m 2) ∷ []
 unfolding look define change
 order = refl
 
@@ -98,32 +105,38 @@ undefined = refl
 
 -- ---- Nothing
 
-no_value : all (codes "+·" ∷ codes "(+·)" ∷ codes "+·⋄1" ∷ codes "(+·)-3" ∷ codes "·-3" ∷ codes "2-+·" ∷ codes "⟨F⟩←⟨∘⟩⋄F ·" ∷ codes "a←+·" ∷ codes "F←{𝕎}⋄F 1" ∷ codes "⟨+·⟩" ∷ codes "1‿(+·)" ∷ codes "[+·]" ∷ codes "{+·}" ∷ codes "{+·⋄1}" ∷ codes "{𝕎𝕩}1" ∷ codes "{𝕎·}1" ∷ codes "{𝕨.a}1" ∷ codes "-{𝔽𝕩}·" ∷ codes "{𝕎˜𝕩}1" ∷ codes "⟨_m⟩←⟨5⟩⋄(+·)_m 1" ∷ codes "⟨_m⟩←⟨5⟩⋄+_m 1" ∷ []) ≡
+no_value : all (codes "+·" ∷ codes "(+·)" ∷ codes "+·⋄1" ∷ codes "(+·)-3" ∷ codes "·-3" ∷ codes "2-+·" ∷ codes "⟨F⟩←⟨∘⟩⋄F ·" ∷ codes "a←+·" ∷ codes "F←{𝕎}⋄F 1" ∷ codes "⟨+·⟩" ∷ codes "1‿(+·)" ∷ codes "[+·]" ∷ codes "{+·}" ∷ codes "{+·⋄1}" ∷ codes "{𝕎𝕩}1" ∷ codes "{𝕎·⋄1}1" ∷ codes "{𝕨.a}1" ∷ codes "-{𝔽𝕩}·" ∷ codes "{𝕎˜𝕩}1" ∷ codes "⟨_m⟩←⟨5⟩⋄(+·)_m 1" ∷ codes "⟨_m⟩←⟨5⟩⋄+_m 1" ∷ []) ≡
     nothing ∷ nothing ∷ gives (n 1) ∷ gives (m 3) ∷ gives (m 3) ∷ nothing ∷ nothing ∷ fails NothingUsed ∷ fails NothingUsed ∷ fails NothingUsed ∷ fails NothingUsed ∷ fails NothingUsed ∷ fails NothingUsed ∷ gives (n 1) ∷ fails NothingUsed ∷ fails NothingUsed ∷ fails NothingUsed ∷ nothing ∷ fails NothingUsed ∷ fails NothingUsed ∷ fails NotCallable ∷ []
 unfolding look define change
 no_value = refl
 
 -- ---- blocks that run where they stand, modifiers and trains
 
-blocks : all (codes "{1+2}" ∷ codes "{1⋄2}" ∷ codes "⟨{1},{2},{3}⟩" ∷ codes "({𝕩+1}2)-{𝕩×10}3" ∷ codes "F←{{𝕩+1}𝕩}⋄G←{𝕩×2}⋄⟨F 1,G 5⟩" ∷ codes "F←{𝕊 0: {10}; 𝕊 n: {n+{1}}}⋄⟨F 0,F 5,{7}⟩" ∷ codes "⟨F⟩←⟨{a←𝕩⋄{a+𝕩}}1⟩⋄F 4" ∷ codes "{𝕩⋄{𝕩}}1" ∷ codes "{𝕩{𝕨+𝕩}2}3" ∷ []) ≡
-    gives (n 3) ∷ gives (n 2) ∷ gives (list (n 1 ∷ n 2 ∷ n 3 ∷ [])) ∷ gives (m 27) ∷ gives (list (n 2 ∷ n 10 ∷ [])) ∷ gives (list (n 10 ∷ n 6 ∷ n 7 ∷ [])) ∷ gives (n 5) ∷ gives (Function 2 1 none) ∷ gives (n 5) ∷ []
+blocks : all (codes "{1+2}" ∷ codes "{1⋄2}" ∷ codes "⟨{1},{2},{3}⟩" ∷ codes "({𝕩+1}2)-{𝕩×10}3" ∷ codes "F←{{𝕩+1}𝕩}⋄G←{𝕩×2}⋄⟨F 1,G 5⟩" ∷ codes "F←{𝕊 0: {10}; 𝕊 n: {n+{1}}}⋄⟨F 0,F 5,{7}⟩" ∷ codes "⟨F⟩←⟨{a←𝕩⋄{a+𝕩}}1⟩⋄F 4" ∷ codes "{𝕩⋄{𝕩}}1" ∷ codes "{𝕩{𝕨+𝕩}2}3" ∷ codes "Make←{n←𝕩⋄{n↩n+𝕩}}⋄⟨F⟩←⟨Make 1⟩⋄⟨G⟩←⟨Make 10⟩⋄⟨F 1,G 1,F 1⟩" ∷ []) ≡
+    gives (n 3) ∷ gives (n 2) ∷ gives (list (n 1 ∷ n 2 ∷ n 3 ∷ [])) ∷ gives (m 27) ∷ gives (list (n 2 ∷ n 10 ∷ [])) ∷ gives (list (n 10 ∷ n 6 ∷ n 7 ∷ [])) ∷ gives (n 5) ∷ gives (Function 2 1 none) ∷ gives (n 5) ∷ gives (list (n 2 ∷ n 11 ∷ n 3 ∷ [])) ∷ []
 unfolding look define change
 blocks = refl
+
+-- a block in each place that a part of a program has
+each_place : all (codes "{10}{𝕨-𝕩}{2}" ∷ codes "{10}-{𝔽}{𝕨𝔽𝕩}{2}" ∷ codes "{10}{𝕨-𝕩}{𝕨𝔾𝔽𝕩}{𝕨×𝕩}{2}" ∷ codes "{10}({𝕨+𝕩}{𝕨-𝕩}{𝕨×𝕩}){2}" ∷ codes "a←{1}⋄a{𝕨-𝕩}{𝔽}↩{5}" ∷ codes "a←{1}⋄a{𝕩-7}{𝔽}↩" ∷ codes "{1}{𝕨-𝕩}{2}{𝕨+𝕩}{3}" ∷ codes "{{0}?{1};{1}?{5};{6}}" ∷ codes "⟨{1},{2}‿{3}‿{4},({5})⟩" ∷ codes "{p⇐{4}}.p-{q⇐{9}}.q" ∷ codes "{1}⋄{2}⋄{3}" ∷ codes "{{7}+𝕩}{𝔽{𝔽𝕩}{2}}1" ∷ codes "a‿b←⟨{1},{2}⟩⋄F←{𝕩+a}⋄_m←{𝔽𝕩}⋄F _m{b}" ∷ []) ≡
+    gives (n 8) ∷ gives (n 8) ∷ gives (m 20) ∷ gives (m 8) ∷ gives (m 4) ∷ gives (m 6) ∷ gives (m 4) ∷ gives (n 5) ∷ gives (list (n 1 ∷ list (n 2 ∷ n 3 ∷ n 4 ∷ []) ∷ n 5 ∷ [])) ∷ gives (m 5) ∷ gives (n 3) ∷ gives (n 9) ∷ gives (n 3) ∷ []
+unfolding look define change
+each_place = refl
 
 modifiers : all (codes "-{𝔽}3" ∷ codes "-{𝔽𝕩}3" ∷ codes "2{𝕗+1}" ∷ codes "-{𝔽𝔾𝕩}×¯5" ∷ codes "4-{𝕨𝔽𝔾𝕩}×¯5" ∷ codes "2{𝕗-𝕘}5" ∷ codes "{𝕩+1}{𝔽𝔽𝕩}5" ∷ codes "-{𝔽}{𝔽𝔽𝕩}5" ∷ codes "⟨_m⟩←⟨∘⟩⋄-_m 1" ∷ codes "_m←{𝔽𝕩}⋄-_m 1" ∷ codes "_m_←{𝔽𝔾𝕩}⋄-_m_- 1" ∷ codes "-{𝕩=0? 𝔽 0; 𝕩=9? 1; 𝔽 _𝕣 9}3" ∷ []) ≡
     gives (m 3) ∷ gives (m 3) ∷ gives (n 3) ∷ gives (n 1) ∷ gives (n 5) ∷ gives (m 3) ∷ gives (n 7) ∷ gives (n 5) ∷ fails NotCallable ∷ gives (m 1) ∷ gives (n 1) ∷ gives (n 1) ∷ []
 unfolding look define change
 modifiers = refl
 
-trains : all (codes "5(+-×)2" ∷ codes "(-×)3" ∷ codes "(3-⊢)5" ∷ codes "(·-⊢)5" ∷ codes "{(𝕨-⊢)𝕩}5" ∷ codes "2{(𝕨-⊢)𝕩}5" ∷ codes "5(+-×-⊢)2" ∷ codes "5(-+×⊢)2" ∷ codes "{(-𝕎⊢)𝕩}5" ∷ codes "{(𝕎⊢)𝕩}5" ∷ codes "{(𝕎-⊢)𝕩}5" ∷ codes "{(+-⊢𝕎-)𝕩}5" ∷ codes "{(-𝕎-⊢)𝕩}5" ∷ []) ≡
-    gives (m 3) ∷ gives (m 1) ∷ gives (m 2) ∷ gives (m 5) ∷ gives (m 5) ∷ gives (m 3) ∷ gives (m 1) ∷ gives (m 14) ∷ fails NothingUsed ∷ fails NothingUsed ∷ gives (m 5) ∷ fails NothingUsed ∷ gives (n 5) ∷ []
+trains : all (codes "5(+-×)2" ∷ codes "(-×)3" ∷ codes "(3-⊢)5" ∷ codes "(·-⊢)5" ∷ codes "{(𝕨-⊢)𝕩}5" ∷ codes "2{(𝕨-⊢)𝕩}5" ∷ codes "5(+-×-⊢)2" ∷ codes "5(-+×⊢)2" ∷ codes "{(-𝕎⊢)𝕩}5" ∷ codes "{(𝕎⊢)𝕩}5" ∷ codes "{(𝕎-⊢)𝕩}5" ∷ codes "{(+-⊢𝕎-)𝕩}5" ∷ codes "{(-𝕎-⊢)𝕩}5" ∷ codes "{(+-𝕎)𝕩}5" ∷ []) ≡
+    gives (m 3) ∷ gives (m 1) ∷ gives (m 2) ∷ gives (m 5) ∷ gives (m 5) ∷ gives (m 3) ∷ gives (m 1) ∷ gives (m 14) ∷ fails NothingUsed ∷ fails NothingUsed ∷ gives (m 5) ∷ fails NothingUsed ∷ gives (n 5) ∷ fails NothingUsed ∷ []
 unfolding look define change
 trains = refl
 
 -- ---- namespaces, patterns, lists and texts
 
-namespaces : all (codes "ns←{x⇐3⋄Inc⇐{𝕩+x}}⋄ns.Inc 4" ∷ codes "{p⇐4}.q" ∷ codes "5 .q" ∷ codes "F←{𝕊 0: {p⇐10}; 𝕊 n: {q⇐n}}⋄⟨(F 0).p,(F 5).q⟩" ∷ codes "{a⇐{b⇐2}}.a.b" ∷ codes "ns←{a⇐⋄a←1⋄b←2}⋄ns.a" ∷ codes "ns←{a⇐⋄a←1⋄b←2}⋄ns.b" ∷ codes "ns←{a⇐1⋄F⇐{a↩𝕩}}⋄ns.F 7⋄ns.a" ∷ codes "{a⇐1⋄+·}.a" ∷ codes "{⟨⟩⇐}" ∷ codes "{·⇐}" ∷ codes "a⇐1" ∷ codes "{⟨⟩⇐⟨⟩}" ∷ []) ≡
-    gives (n 7) ∷ fails NoField ∷ fails NoField ∷ gives (list (n 10 ∷ n 5 ∷ [])) ∷ gives (n 2) ∷ gives (n 1) ∷ fails NoField ∷ gives (n 7) ∷ gives (n 1) ∷ gives (Namespace 1) ∷ gives (Namespace 1) ∷ gives (Namespace 0) ∷ gives (Namespace 1) ∷ []
+namespaces : all (codes "ns←{x⇐3⋄Inc⇐{𝕩+x}}⋄ns.Inc 4" ∷ codes "{p⇐4}.q" ∷ codes "5 .q" ∷ codes "F←{𝕊 0: {p⇐10}; 𝕊 n: {q⇐n}}⋄⟨(F 0).p,(F 5).q⟩" ∷ codes "{a⇐{b⇐2}}.a.b" ∷ codes "ns←{a⇐⋄a←1⋄b←2}⋄ns.a" ∷ codes "ns←{a⇐⋄a←1⋄b←2}⋄ns.b" ∷ codes "ns←{a⇐1⋄F⇐{a↩𝕩}}⋄ns.F 7⋄ns.a" ∷ codes "{a⇐1⋄+·}.a" ∷ codes "{⟨⟩⇐}" ∷ codes "{·⇐}" ∷ codes "a⇐1" ∷ codes "{⟨⟩⇐⟨⟩}" ∷ codes "{0?1;q⇐2}" ∷ []) ≡
+    gives (n 7) ∷ fails NoField ∷ fails NoField ∷ gives (list (n 10 ∷ n 5 ∷ [])) ∷ gives (n 2) ∷ gives (n 1) ∷ fails NoField ∷ gives (n 7) ∷ gives (n 1) ∷ gives (Namespace 1) ∷ gives (Namespace 1) ∷ gives (Namespace 0) ∷ gives (Namespace 1) ∷ gives (Namespace 2) ∷ []
 unfolding look define change
 namespaces = refl
 
@@ -144,6 +157,13 @@ budget : budgets (codes "1") ∷ budgets (codes "") ∷ budgets (codes "{1}") �
 unfolding look define change
 budget = refl
 
+abbrev turned : (steps : ℕ) → Res Spent State (Result Value Fault)
+turned steps = calls_run (replies (record { blocks = []; args = n 0 })) 0 (Turn (λ u. answer (n 1))) (at_start steps)
+
+-- a turn is a step
+turns : seen_call (turned 0) ∷ seen_call (turned 1) ∷ [] ≡ spent ∷ gives (n 1) ∷ []
+turns = refl
+
 -- one more open call than there is room for is found before its step
 open_calls : limited 0 1 (codes "{1}") ∷ limited 1 1 (codes "{1}") ∷ limited 1 2 (codes "{1}") ∷ limited 1 9 (codes "{{1}}") ∷ limited 2 9 (codes "{{1}}") ∷ limited 0 1 (codes "2{𝕗}") ∷ limited 0 1 (codes "{𝕩}1") ∷ limited 0 1 (codes "-{𝔽𝕩}1") ∷ limited 0 1 (codes "(+-×)2") ∷ limited 1 1 (codes "(+-×)2") ∷ limited 0 1 (codes "-×2") ∷ limited 0 1 (codes "{𝕩}·") ∷ limited 3 4 (codes "{𝕊𝕩}0") ∷ limited 3 3 (codes "{𝕊𝕩}0") ∷ limited 1000 100 (codes "{𝕊𝕩}0") ∷ limited 20 100 (codes "F←{𝕊 0: 0; 𝕊 x: 1+F x-1}⋄F 19") ∷ limited 20 100 (codes "F←{𝕊 0: 0; 𝕊 x: 1+F x-1}⋄F 20") ∷ [] ≡
     fails TooDeep ∷ spent ∷ gives (n 1) ∷ fails TooDeep ∷ gives (n 1) ∷ fails TooDeep ∷ fails TooDeep ∷ fails TooDeep ∷ fails TooDeep ∷ gives (n 1) ∷ gives (m 1) ∷ nothing ∷ fails TooDeep ∷ spent ∷ spent ∷ gives (n 19) ∷ fails TooDeep ∷ []
@@ -161,6 +181,16 @@ shows = refl
 
 arguments : elim (tree_of_text [] (codes "•args")) [ Err r ↦ refused r | Ok tree ↦ seen (evaluated_within 0 tree (codes "a" ∷ [] ∷ []) 1).outcome ] ≡ gives (list (list (Character 97 ∷ []) ∷ Array (0 ∷ []) none (filled (Character 32)) ∷ []))
 arguments = refl
+
+in_order : written (codes "(•Show 1){𝕗-𝕘}(•Show 2)") ∷ written (codes "(•Show 1){•Show 3⋄_m_⇐{𝕗-𝕘}}._m_(•Show 2)") ∷ written (codes "F←{•Show 1⋄F⇐+}.F{•Show 2⋄F⇐+}.F{•Show 3⋄F⇐+}.F") ∷ written (codes "{•Show 1⋄a⇐1}.a{•Show 2⋄F⇐-}.F{•Show 3⋄a⇐1}.a") ∷ written (codes "(•Show 1)‿(•Show 2)") ∷ written (codes "a←0⋄a{•Show 2⋄F⇐-}.F↩•Show 1") ∷ written (codes "(•Show 1){•Show 2⋄⟨F⟩⇐⟨∘⟩}.F+·") ∷ [] ≡
+    codes "2\n1\n" ∷ codes "2\n3\n1\n" ∷ codes "3\n2\n1\n" ∷ codes "3\n2\n1\n" ∷ codes "1\n2\n" ∷ codes "1\n2\n" ∷ codes "2\n1\n" ∷ []
+unfolding look define change digits encode
+in_order = refl
+
+-- `a F↩` reads `a` before its function, `a F↩ x` behind it
+reads : all (codes "a←1⋄a{a↩5⋄F⇐⊢}.F↩" ∷ codes "a←1⋄a{a↩5⋄F⇐-}.F↩1" ∷ []) ≡ gives (n 1) ∷ gives (n 4) ∷ []
+unfolding look define change
+reads = refl
 
 -- ---- lines of a session
 
@@ -185,8 +215,8 @@ further_blocks : lines 50 (codes "F←{𝕩+1}⋄a←{5}" ∷ codes "G←{𝕩×
 unfolding look define change
 further_blocks = refl
 
-stored_so_far : lines 50 (codes "a←0⋄b←0" ∷ codes "⟨a,⟨b⟩⟩↩⟨1,2⟩" ∷ codes "a" ∷ codes "⟨a,b⟩↩5‿6‿7" ∷ codes "a" ∷ codes "⟨a,a⟩↩{a⇐3⋄b⇐4}" ∷ codes "a" ∷ []) ≡
-    gives (n 0) ∷ fails Pattern ∷ gives (n 1) ∷ fails Pattern ∷ gives (n 1) ∷ gives (Namespace 1) ∷ gives (n 3) ∷ []
+stored_so_far : lines 50 (codes "a←0⋄b←0⋄c←0" ∷ codes "⟨a,⟨b⟩⟩↩⟨1,2⟩" ∷ codes "a" ∷ codes "⟨a,b⟩↩5‿6‿7" ∷ codes "a" ∷ codes "⟨a,a⟩↩{a⇐3⋄b⇐4}" ∷ codes "a" ∷ codes "⟨a,c⟩↩{a⇐9}" ∷ codes "a" ∷ []) ≡
+    gives (n 0) ∷ fails Pattern ∷ gives (n 1) ∷ fails Pattern ∷ gives (n 1) ∷ gives (Namespace 1) ∷ gives (n 3) ∷ fails NoField ∷ gives (n 3) ∷ []
 unfolding look define change
 stored_so_far = refl
 
@@ -194,6 +224,18 @@ further_bodies : lines 50 (codes "n←{p⇐1}" ∷ codes "m←{q⇐2;𝕩}0" ∷
     gives (Namespace 1) ∷ gives (Namespace 2) ∷ gives (list (n 2 ∷ n 1 ∷ [])) ∷ gives (Namespace 0) ∷ []
 unfolding look define change
 further_bodies = refl
+
+-- ---- an environment is of use to the body for which it was made
+
+abbrev a_of : ℕ → List Numbered
+a_of number = record { number = number; scope = scope (codes "a" ∷ []) [] [] false } ∷ []
+
+abbrev read_after_store : (stored read : ℕ) → Res Spent State (Result Value Fault)
+read_after_store stored read = (define (a_of stored) 0 (codes "a") (n 5) >>= (λ u. look (a_of read) 0 (codes "a"))) (at_start 1)
+
+own_body : seen_call (read_after_store 0 0) ∷ seen_call (read_after_store 0 1) ∷ seen_call (read_after_store 1 0) ∷ [] ≡ gives (n 5) ∷ fails Undefined ∷ fails Undefined ∷ []
+unfolding look define
+own_body = refl
 
 -- ---- the numbers of blocks and bodies
 

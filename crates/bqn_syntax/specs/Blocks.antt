@@ -174,7 +174,7 @@ no_lines = record { names = []; blocks = [] }
 
 -- how many blocks and bodies come before those of a line, the program and its body among them
 abbrev pub behind : Earlier → Count
-behind earlier = record { blocks = suc (length earlier.blocks); bodies = suc (length (all_bodies earlier.blocks)) }
+behind earlier = record { blocks = 1 + length earlier.blocks; bodies = 1 + length (all_bodies earlier.blocks) }
 
 abbrev pub line_scope : Earlier → Stmts → Scope
 line_scope earlier ss = top_scope earlier.names (stmts_mentions ss no_mentions) (order_of None ss)
@@ -189,7 +189,7 @@ line_body earlier ss = record {
   around = [];
   exports = stmts_export ss;
   exported = exported_names (line_scope earlier ss) (stmts_mentions ss no_mentions);
-  inside = suc (length earlier.blocks);
+  inside = 1 + length earlier.blocks;
 }
 
 -- what a line leaves to the next one
