@@ -1,10 +1,9 @@
 -- Scope, computed: the uses of a source, or its refusal.
-use Rattle.std.proofs.Common.{◌≡◌, ℕ, List, [], ◌∷◌, map, Result, Ok, Err, refl}
+use Rattle.std.proofs.Common.{◌≡◌, ℕ, List, [], ◌∷◌, Result, Ok, Err, refl}
 use lib.Chars.{codes}
 use Rattle.bqn_base.specs.declared.place.Place.{Place}
 use Rattle.bqn_base.specs.declared.refusal.Refusal.{Refusal}
 use Rattle.bqn_base.specs.declared.refusal.Refusal.TheVariants.{Undeclared, Redefined, Early, UnknownSystem}
-use Rattle.bqn_syntax.specs.declared.token.Token.{Token}
 use Rattle.bqn_syntax.specs.Tokens.{tokens_of_text}
 use Rattle.bqn_syntax.specs.Plain.{Stmts}
 use Rattle.bqn_syntax.specs.Parsing.{parsed}

@@ -3,8 +3,8 @@
 use Rattle.std.specs.Prelude.{ℕ, ◌+◌, Bool, true, false, if◌then◌else◌, List, [], ◌∷◌, ◌++◌, length, map, Option, Some, None, Result, Ok, Err}
 use Rattle.bqn_base.specs.declared.refusal.Refusal.{Refusal}
 use Rattle.bqn_syntax.specs.Plain.{Stmts}
-use Rattle.bqn_syntax.specs.Order.{How, Reads, Defines, Exports, Changes, Shows, order_of}
-use Rattle.bqn_syntax.specs.Mentions.{Mention, Named, Special, System, Inner, Mentions, no_mentions, and_mentions, Scopes, no_scopes, and_scopes, stmts_mentions}
+use Rattle.bqn_syntax.specs.Order.{How, Exports, Shows, order_of}
+use Rattle.bqn_syntax.specs.Mentions.{Mention, Named, Inner, Mentions, no_mentions, and_mentions, Scopes, no_scopes, and_scopes, stmts_mentions}
 use Rattle.bqn_syntax.specs.Scope.{Scope, block_scope, top_scope, names_of, name_of, has, place_of, Use, resolved}
 
 -- the number of the body around, or of the session's names; the names by their slots; the exported ones with their slots
