@@ -1,0 +1,5 @@
+pub mod SmallCodes
+mod Samples
+mod PatternSamples
+mod RunSamples
+mod VerifiedSamples
