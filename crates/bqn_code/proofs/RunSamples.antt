@@ -109,7 +109,7 @@ further_variable : behind first (code [] (program 3 (i.Load 0 2 ∷ i.Return ∷
 further_variable = refl
 
 -- the blocks of a code are numbered behind those before it
-further_block : behind first (code [] (program 2 (i.Block 1 ∷ i.Return ∷ []) ∷ block class.Function 0 (body 0 (i.Right ∷ i.Return ∷ []) ∷ []) ∷ [])) ≡ Done (Some (Function 3 0 none))
+further_block : behind first (code [] (program 2 (i.Block 1 ∷ i.Return ∷ []) ∷ block class.Function 0 (body 0 (i.Right ∷ i.Return ∷ []) ∷ []) ∷ [])) ≡ Done (Some (Function 2 0 none))
 further_block = refl
 
 -- `G←{𝕩-F 𝕩}⋄G 5`

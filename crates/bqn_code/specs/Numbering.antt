@@ -1,22 +1,29 @@
 -- The blocks and bodies of several codes by number. Those of a further code come behind those of the codes before it; only the
--- top bodies of all codes have the number 0, since their variables are shared. All of it is this project's own.
-use Rattle.std.specs.Prelude.{ℕ, zero, suc, ◌+◌, nat_eq, Bool, true, false, List, [], ◌∷◌, ◌++◌, length, map, slice_get, Option, Some, None}
+-- programs and the top bodies of all codes have the number 0, since their variables are shared. All of it is this project's own.
+use Rattle.std.specs.Prelude.{ℕ, zero, suc, ◌+◌, ◌-◌, nat_eq, Bool, true, false, List, [], ◌∷◌, ◌++◌, length, map, slice_get, Option, Some, None}
 use Rattle.std.specs.Cmp.Lexicographic.{pointwise}
 use Rattle.bqn_syntax.specs.declared.tree.Class.{Class}
 use Rattle.bqn_code.specs.declared.code.Body.{Body}
 use Rattle.bqn_code.specs.declared.code.Block.{Block}
 use Rattle.bqn_code.specs.Plain.{Code}
 
--- a code, and how many blocks and bodies the codes before it have
+-- a code, and how many blocks and bodies the codes before it have besides their programs and top bodies
 pub record Placed : Type 0 where
   pub code : Code
   pub blocks : ℕ
   pub bodies : ℕ
 
--- the number of a body of this code among all bodies
+-- behind so many others; the first is shared
+abbrev pub number_behind : (before k : ℕ) → ℕ
+number_behind before zero = 0
+number_behind before (suc k) = before + suc k
+
+-- the number of a block of this code among all blocks, and that of a body among all bodies
+abbrev pub block_number : Placed → ℕ → ℕ
+block_number here k = number_behind here.blocks k
+
 abbrev pub body_number : Placed → ℕ → ℕ
-body_number here zero = 0
-body_number here (suc k) = here.bodies + suc k
+body_number here k = number_behind here.bodies k
 
 -- a block, with the number that its first body has in its own code
 pub record BlockAt : Type 0 where
@@ -41,22 +48,22 @@ abbrev pub placed_bodies : Placed → List Block → List BodyAt
 placed_bodies here [] = []
 placed_bodies here (b ∷ bs) = map (placed_body here b) b.bodies ++ placed_bodies here bs
 
--- all blocks and all bodies by number; body 0 is the top body of the last code
+-- all blocks and all bodies by number; block 0 and body 0 are those of the last code
 pub record Table : Type 0 where
   pub blocks : List BlockAt
   pub bodies : List BodyAt
 
--- the bodies of a further code behind others, its top body in front
-abbrev pub joined : List BodyAt → List BodyAt → List BodyAt
+-- those of a further code behind others; its first one takes the place of the first
+abbrev pub joined : {A : Type 0} → List A → List A → List A
 joined [] new = new
 joined (top ∷ old) [] = top ∷ old
-joined (top ∷ old) (b ∷ new) = b ∷ (old ++ b ∷ new)
+joined (top ∷ old) (x ∷ new) = x ∷ (old ++ new)
 
 abbrev pub behind : Table → Code → Placed
-behind t code = record { code = code; blocks = length t.blocks; bodies = length t.bodies }
+behind t code = record { code = code; blocks = length t.blocks - 1; bodies = length t.bodies - 1 }
 
 abbrev pub with_code : Table → Code → Table
-with_code t code = record { blocks = t.blocks ++ placed_blocks (behind t code) 0 code.blocks; bodies = joined t.bodies (placed_bodies (behind t code) code.blocks) }
+with_code t code = record { blocks = joined t.blocks (placed_blocks (behind t code) 0 code.blocks); bodies = joined t.bodies (placed_bodies (behind t code) code.blocks) }
 
 abbrev pub with_codes : Table → List Code → Table
 with_codes t [] = t

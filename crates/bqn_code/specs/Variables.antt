@@ -1,20 +1,22 @@
 -- Where code stands, and its variables: BQN's page on scope, over slots. Each look-up of an environment names the body for which it
 -- has to be made; where it was made for another, a read is Undefined and a store does nothing. That is this project's own.
-use Rattle.std.specs.Prelude.{ℕ, zero, suc, nat_eq, Bool, true, false, List, slice_get, slice_set, Option, Some, None, Result, Ok, Err}
+use Rattle.std.specs.Prelude.{ℕ, zero, suc, nat_eq, Bool, true, false, List, slice_get, slice_set, Option, Some, None, Ok}
 use Rattle.std.specs.Option.{option_and_then}
-use Rattle.bqn_base.specs.declared.fault.Fault.{Fault}
 use Rattle.bqn_base.specs.declared.fault.Fault.TheVariants.{Undefined, NoField}
 use Rattle.bqn_base.specs.Plain.{Value, Values, Namespace}
 use Rattle.bqn_base.specs.Calls.{Arguments}
 use Rattle.bqn_base.specs.Running.{Gives}
-use Rattle.bqn_code.specs.States.{Environment, State, M, fault, ◌>>=◌}
+use Rattle.bqn_syntax.specs.declared.tree.Class.{Class}
+use Rattle.bqn_code.specs.Actions.{found, fault, ◌>>=◌}
+use Rattle.bqn_code.specs.States.{Environment, State, Does}
 use Rattle.bqn_code.specs.Numbering.{Placed, Table, parent_of, field_slot}
 
--- the code, the numbers of the block, of the body, of the body's environment and of the one where the block's value was made, and
--- what the block is run on
+-- The code, the number and class of the block, the numbers of the body, of its environment and of the one where the block's value
+-- was made, and what the block is run on.
 pub record Frame : Type 0 where
   pub here : Placed
   pub block : ℕ
+  pub class : Class
   pub body : ℕ
   pub environment : ℕ
   pub outer : ℕ
@@ -57,13 +59,9 @@ variable s slot n = option_and_then (variable_in slot) (slice_get s.environments
 abbrev pub value_at : Table → Frame → (up slot : ℕ) → State → Option Value
 value_at t f up slot s = option_and_then (variable s slot) (place t f up s)
 
-abbrev pub found : Option Value → Result Value Fault
-found None = Err Undefined
-found (Some v) = Ok v
-
 -- the value of a variable so many bodies up
-abbrev pub load : Table → Frame → (up slot : ℕ) → M Value
-load t f up slot = λ s. Gives (found (value_at t f up slot s)) s
+abbrev pub load : Table → Frame → (up slot : ℕ) → Does Value
+load t f up slot = λ s. found Undefined (value_at t f up slot s) s
 
 -- ---- storing
 
@@ -82,18 +80,18 @@ abbrev pub stored : Table → Frame → (up slot : ℕ) → Value → State → 
 stored t f up slot v s = record s { environments = put_at (place t f up s) slot v s.environments }
 
 -- a variable of the body itself gets a value
-abbrev pub define : Table → Frame → (slot : ℕ) → Value → M Value
-define t f slot v = λ s. Gives (Ok v) (stored t f 0 slot v s)
+abbrev pub define : Table → Frame → (slot : ℕ) → Value → Does (Unit {0})
+define t f slot v = λ s. Gives (Ok tt) (stored t f 0 slot v s)
 
 -- a variable that has a value gets another
-abbrev pub change : Table → Frame → (up slot : ℕ) → Value → M Value
-change t f up slot v = load t f up slot >>= (λ old s. Gives (Ok v) (stored t f up slot v s))
+abbrev pub change : Table → Frame → (up slot : ℕ) → Value → Does (Unit {0})
+change t f up slot v = load t f up slot >>= (λ old s. Gives (Ok tt) (stored t f up slot v s))
 
 -- ---- fields
 
-abbrev pub read_field : State → ℕ → Option ℕ → Result Value Fault
-read_field s n None = Err NoField
-read_field s n (Some slot) = found (variable s slot n)
+abbrev pub read_field : (environment : ℕ) → Option ℕ → Does Value
+read_field n None = fault NoField
+read_field n (Some slot) = λ s. found Undefined (variable s slot n) s
 
 abbrev pub slot_of : Table → Option (List ℕ) → Option Environment → Option ℕ
 slot_of t name None = None
@@ -104,6 +102,6 @@ abbrev pub field_place : Table → State → (environment : ℕ) → Option (Lis
 field_place t s n name = slot_of t name (slice_get s.environments n)
 
 -- the present value of a field
-abbrev pub field : Table → Option (List ℕ) → Value → M Value
-field t name (Namespace n) = λ s. Gives (read_field s n (field_place t s n name)) s
+abbrev pub field : Table → Option (List ℕ) → Value → Does Value
+field t name (Namespace n) = λ s. read_field n (field_place t s n name) s
 field t name v = fault NoField
