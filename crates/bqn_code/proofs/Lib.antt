@@ -3,3 +3,4 @@ mod Samples
 mod PatternSamples
 mod RunSamples
 mod VerifiedSamples
+pub mod Sure

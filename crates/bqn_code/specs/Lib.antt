@@ -13,3 +13,4 @@ pub mod Heights
 pub mod Standing
 pub mod Conditions
 pub mod Verified
+pub mod Sureness

@@ -4,9 +4,11 @@
 mod code;
 mod constant;
 mod instr;
+mod laws;
 mod pattern;
 
 pub use code::{Block, Body, Code};
 pub use constant::Const;
 pub use instr::Instr;
+pub use laws::sound_tables_are_never_stuck;
 pub use pattern::PatternCode;
