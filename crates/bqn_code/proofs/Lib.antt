@@ -3,4 +3,6 @@ mod Samples
 mod PatternSamples
 mod RunSamples
 mod VerifiedSamples
+pub mod Sound
 pub mod Sure
+pub mod SoundTables

@@ -7,17 +7,17 @@ use Rattle.bqn_base.specs.Plain.{Value, Number, Character, Array, Given, Derived
 use Rattle.bqn_base.specs.Relations.{both}
 use Rattle.bqn_code.specs.declared.code.Body.{Body}
 use Rattle.bqn_base.specs.Calls.{Arguments, Call, End, Enter, Turn, Write, Inside, call}
-use Rattle.bqn_base.specs.Running.{Res, Gives, Ends, then_do, run, calls}
+use Rattle.bqn_base.specs.Running.{Res, Gives, Ends, then_do, run}
 use Rattle.bqn_syntax.specs.declared.tree.Class.{Class}
 use Rattle.bqn_syntax.specs.declared.tree.Class.TheVariants as class
 use Rattle.bqn_code.specs.declared.instr.Instr.{Instr}
 use Rattle.bqn_code.specs.declared.instr.Instr.TheVariants as instr
 use Rattle.bqn_code.specs.Plain.{Pattern, Skip, Define, Change, ListPattern, Literal, Patterns, no_patterns, and_patterns}
-use Rattle.bqn_code.specs.Actions.{go_on, ◌>>=◌, pure, fault, known, found, used, where_so}
+use Rattle.bqn_code.specs.Actions.{go_on, ◌>>=◌, pure, known, found, used, where_so}
 use Rattle.bqn_base.specs.declared.fault.Fault.TheVariants.{Undefined, TooDeep}
 use Rattle.bqn_code.specs.Making.{Fit, Fits, Mismatch, Missing, listed, atop, fork, truth, does_fit, left_of, right_of, left_operand, right_operand, modifier_of}
 use Rattle.bqn_code.specs.States.{State, Halted, Spends, Sticks, Does, Ran, Calling, stuck, stepped, wrote}
-use Rattle.bqn_code.specs.Numbering.{Table, BlockAt, BodyAt, block_number, body_number, class_of}
+use Rattle.bqn_code.specs.Numbering.{Table, BlockAt, BodyAt, body_number, class_of}
 use Rattle.bqn_code.specs.Variables as v
 use Rattle.bqn_code.specs.Variables.{Frame}
 use Rattle.bqn_code.specs.Patterns as p
@@ -26,27 +26,28 @@ use Rattle.bqn_code.specs.Operands.{Stack, Ending, Go, one, pair, triple, taken,
 use Rattle.bqn_code.specs.Execution as e
 use Rattle.bqn_code.specs.Heights.{takes, gives, is_last, is_balanced, is_empty}
 use Rattle.bqn_code.specs.declared.constant.Const.{Const}
-use Rattle.bqn_code.specs.Programs.{top_answer, top_frame, run_top, begun}
-use Rattle.bqn_code.specs.Sureness.{SoundTablesAreNeverStuck, Sure, AllSure, has_object, is_sound, SoundTable, is_value_class, is_run_class}
+use Rattle.bqn_code.specs.Programs.{top_answer, top_frame, run_top, run_all, begun}
+use Rattle.bqn_code.specs.Sureness.{Sure}
+use Rattle.bqn_code.proofs.Sound.{AllSure, is_value_class, is_run_class, has_object, is_sound, SoundTable}
 
-no : IsTrue false → ⊥
+pub no : IsTrue false → ⊥
 no p = subst (λ b. elim b as (λ z. Type 0) [ true ↦ ⊥ | false ↦ Unit {0} ]) p tt
 
-none_some : {A : Type 0} {x : A} → None ≡ Some x → ⊥
+pub none_some : {A : Type 0} {x : A} → None ≡ Some x → ⊥
 none_some q = no (ap is_some q)
 
-some_same : {A : Type 0} {x y : A} → Some x ≡ Some y → x ≡ y
+pub some_same : {A : Type 0} {x y : A} → Some x ≡ Some y → x ≡ y
 some_same {x = x} q = ap (λ o. elim o [ None ↦ x | Some z ↦ z ]) q
 
-and_left : (a b : Bool) → IsTrue (a && b) → IsTrue a
+pub and_left : (a b : Bool) → IsTrue (a && b) → IsTrue a
 and_left true b h = refl
 and_left false b h = h
 
-and_right : (a b : Bool) → IsTrue (a && b) → IsTrue b
+pub and_right : (a b : Bool) → IsTrue (a && b) → IsTrue b
 and_right true b h = h
 and_right false b h = absurd (no h)
 
-all_at : {A : Type 0} (test : A → Bool) (xs : List A) (k : ℕ) (x : A) → IsTrue (list_all test xs) → slice_get xs k ≡ Some x → IsTrue (test x)
+pub all_at : {A : Type 0} (test : A → Bool) (xs : List A) (k : ℕ) (x : A) → IsTrue (list_all test xs) → slice_get xs k ≡ Some x → IsTrue (test x)
 all_at test [] k x h q = absurd (none_some q)
 all_at test (y ∷ ys) zero x h q = subst (λ z. IsTrue (test z)) (some_same q) (and_left (test y) _ h)
 all_at test (y ∷ ys) (suc k) x h q = all_at test ys k x (and_right (test y) _ h) q
@@ -320,11 +321,9 @@ top_sure o.NextBody = λ s. tt
 top_sure (o.EndsWith x) = λ s. tt
 
 -- and no program is stuck
-pub programs_sure : SoundTablesAreNeverStuck
+pub programs_sure : (t : Table) (args : Value) (room : ℕ) → SoundTable t → AllSure (run_all t args room)
 programs_sure t args room sound = by (slice_get t.bodies 0) refl
   where
     by : (o : Option BodyAt) → slice_get t.bodies 0 ≡ o → AllSure (run_top t args room o)
     by None q = absurd (no (subst (λ o. IsTrue (is_some o)) q sound.top))
     by (Some b) q = λ s. stepped_sure _ (bind_sure (e.exec t args (e.runs t args room) (top_frame b) b.body.code []) _ (exec_sure t args (e.runs t args room) (runs_sure t args sound room) (top_frame b) b.body.code [] (and_left (list_all (has_object t b.here) b.body.code) _ (all_at (λ x. is_sound t x.here x.body) t.bodies 0 b sound.bodies q)) (and_right (list_all (has_object t b.here) b.body.code) _ (all_at (λ x. is_sound t x.here x.body) t.bodies 0 b sound.bodies q))) top_sure) (begun b.body.slots s)
-
-pub ruleset sure_laws = (programs_sure)

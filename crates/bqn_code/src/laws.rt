@@ -1,10 +1,10 @@
 //! What holds of the definitions themselves: nothing runs here.
 
-ghost use Rattle.bqn_code.specs.Sureness.{SoundTablesAreNeverStuck};
+ghost use Rattle.bqn_code.specs.Sureness.{VerifiedCodeIsNeverStuck};
 
-/// Where each instruction finds its operands and its objects, no run is ever stuck, whatever the
-/// values and the state are.
-#[tactic(auto, using(crate::proofs::Sure::sure_laws))]
-pub fn sound_tables_are_never_stuck()
-    ensures { SoundTablesAreNeverStuck }
+/// A verified code never misses an operand or an object: by itself, and behind other verified
+/// codes.
+#[tactic(auto, using(crate::proofs::SoundTables::sure_laws))]
+pub fn verified_code_is_never_stuck()
+    ensures { VerifiedCodeIsNeverStuck }
 {}

@@ -10,5 +10,5 @@ mod pattern;
 pub use code::{Block, Body, Code};
 pub use constant::Const;
 pub use instr::Instr;
-pub use laws::sound_tables_are_never_stuck;
+pub use laws::verified_code_is_never_stuck;
 pub use pattern::PatternCode;
