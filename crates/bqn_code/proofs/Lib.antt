@@ -6,3 +6,4 @@ mod VerifiedSamples
 pub mod Sound
 pub mod Sure
 pub mod SoundTables
+mod LongTexts
