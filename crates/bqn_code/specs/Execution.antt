@@ -1,0 +1,112 @@
+-- What code means: the 28 instructions over a stack, and how the bodies of a block are tried. Code has no jumps: each instruction is
+-- told what comes after it. All of it is this project's own.
+use Rattle.std.specs.Prelude.{ℕ, zero, suc, Bool, true, false, List, [], ◌∷◌, ◌++◌, length, replicate, slice_get, Option, Some, None}
+use Rattle.bqn_base.specs.declared.fault.Fault.TheVariants.{Undefined, NoBody}
+use Rattle.bqn_base.specs.Plain.{Value, Function, Values, none}
+use Rattle.bqn_base.specs.Calls.{Arguments, alone, two}
+use Rattle.bqn_base.specs.Running.{Gives, Replies, calls}
+use Rattle.bqn_code.specs.declared.instr.Instr.{Instr}
+use Rattle.bqn_code.specs.declared.instr.Instr.TheVariants as instr
+use Rattle.bqn_code.specs.declared.code.Body.{Body}
+use Rattle.bqn_code.specs.Plain.{Pattern}
+use Rattle.bqn_code.specs.Actions.{◌>>=◌, pure, fault, known, found, used, where_so}
+use Rattle.bqn_code.specs.Making.{listed, left_of, right_of, left_operand, right_operand, modifier_of, atop, fork, truth, does_fit}
+use Rattle.bqn_code.specs.States.{State, Halted, Does, Calling, stuck, stepped, wrote}
+use Rattle.bqn_code.specs.Numbering.{Table, BlockAt, block_number, body_number, class_of}
+use Rattle.bqn_code.specs.Variables.{Frame, load, define, change, field}
+use Rattle.bqn_code.specs.Patterns.{fit, bind}
+use Rattle.bqn_code.specs.Operands.{Ending, NextBody, EndsWith, Go, one, pair, triple, taken, pushed, value, constant, given, block_value, block_answer, applied, modified_one, modified_two, returned, left_space}
+
+-- a pattern, where there is one with this number
+abbrev pub with_pattern : Option Pattern → (Pattern → Does Ending) → Does Ending
+with_pattern None go = stuck
+with_pattern (Some p) go = go p
+
+-- a value that an action stores stays
+abbrev pub stays : (Value → Does (Unit {0})) → Option Value → Does (Option Value)
+stays store x = used x >>= (λ v. store v >>= (λ u. pure (Some v)))
+
+-- code in a body, with all codes so far, the value of `•args`, and how calls run
+module _ (t : Table) (args : Value) (h : Calling) (f : Frame) where
+  -- an instruction, and what comes after it
+  abbrev pub act : Instr → Go → Go
+  act (instr.Const k) next st = pushed (value (constant (slice_get f.here.code.constants k))) next st
+  act (instr.Given code) next st = pushed (value (given args code)) next st
+  act instr.Nothing next st = next (None ∷ st)
+  act (instr.Block b) next st = pushed (value (block_value h (class_of t (block_number f.here b)) (block_number f.here b) f.environment)) next st
+  act (instr.Run b) next st = pushed (value (block_answer h (class_of t (block_number f.here b)) (block_number f.here b) f.environment)) next st
+  act (instr.Load up slot) next st = pushed (value (load t f up slot)) next st
+  act (instr.Define slot) next st = one (λ x. pushed (stays (define t f slot) x) next) st
+  act (instr.Change up slot) next st = one (λ x. pushed (stays (change t f up slot) x) next) st
+  act instr.Pop next st = one (λ x. next) st
+  act (instr.List n) next st = taken n (Some none) (λ xs. pushed (value (known (listed xs))) next) st
+  act instr.Call1 next st = pair (λ g x. pushed (applied h g None x) next) st
+  act instr.Call2 next st = triple (λ w g x. pushed (applied h g w x) next) st
+  act instr.Derive1 next st = pair (λ g m. pushed (value (modified_one (class_of t) h m g)) next) st
+  act instr.Derive2 next st = triple (λ g m k. pushed (value (modified_two (class_of t) h m g k)) next) st
+  act instr.Train2 next st = pair (λ g k. pushed (value (known (atop g k))) next) st
+  act instr.Train3 next st = triple (λ e g k. pushed (value (known (fork e g k))) next) st
+  act (instr.Field k) next st = one (λ x. pushed (value (used x >>= field t (slice_get f.here.code.names k))) next) st
+  act (instr.Bind k) next st = with_pattern (slice_get f.here.code.patterns k) (λ p. one (λ x. pushed (stays (bind t f p) x) next) st)
+  act (instr.Match k) next st = with_pattern (slice_get f.here.code.patterns k) (λ p. one (λ x rest. used x >>= (λ v. fit t f p v >>= (λ r. where_so NextBody (next rest) (does_fit r)))) st)
+  act instr.Check next st = one (λ x rest. used x >>= (λ v. known (truth v) >>= where_so NextBody (next rest))) st
+  act instr.Left next st = next (left_of f.arguments ∷ st)
+  act instr.Right next st = pushed (value (found Undefined (right_of f.arguments))) next st
+  act instr.Own next st = next (Some (Function f.block f.outer f.operands) ∷ st)
+  act instr.LeftOperand next st = pushed (value (found Undefined (left_operand f.operands))) next st
+  act instr.RightOperand next st = pushed (value (found Undefined (right_operand f.operands))) next st
+  act instr.Modifier next st = pushed (value (found Undefined (modifier_of f.class f.block f.outer))) next st
+  act instr.Return next st = returned st
+  act instr.Space next st = left_space f.environment st
+
+  abbrev pub exec : List Instr → Go
+  exec [] = λ st. stuck
+  exec (i ∷ is) = act i (exec is)
+
+-- ---- bodies
+
+-- for which calls a body is meant: 0 for all, 1 for those without a left argument, 2 for those with one
+abbrev pub is_meant : (kind : ℕ) → Arguments → Bool
+is_meant zero _ = true
+is_meant (suc zero) (alone x) = true
+is_meant (suc (suc zero)) (two w x) = true
+is_meant _ _ = false
+
+-- what a body that is tried gives, or what comes behind it
+abbrev pub or_else : Does Value → Ending → Does Value
+or_else others NextBody = others
+or_else others (EndsWith x) = used x
+
+-- an environment for this body within that one, with variables that have no value yet; it gets the next number
+abbrev pub within_new : {A : Type 0} → (body slots parent : ℕ) → (ℕ → Does A) → Does A
+within_new body slots parent next = λ s. next (length s.environments) (record s { environments = s.environments ++ record { body = body; parent = parent; variables = replicate slots None } ∷ [] })
+
+-- a block that is run in an environment on operands and arguments
+module _ (t : Table) (args : Value) (h : Calling) (b : BlockAt) (block outer : ℕ) (operands : Values) (arguments : Arguments) where
+  -- where the body with this number among all bodies stands, in its environment
+  abbrev pub frame : (body environment : ℕ) → Frame
+  frame body environment = record { here = b.here; block = block; class = b.block.class; body = body; environment = environment; outer = outer; operands = operands; arguments = arguments }
+
+  -- a body is tried, which takes a step, and perhaps others behind it
+  abbrev pub tried : (others : Does Value) → (number : ℕ) → Body → Does Value
+  tried others number body = stepped (within_new number body.slots outer (λ n. exec t args h (frame number n) body.code [] >>= or_else others))
+
+  -- the bodies in order, the first with this number in its own code
+  abbrev pub tries : ℕ → List Body → Does Value
+  tries k [] = fault NoBody
+  tries k (body ∷ bodies) = elim (is_meant body.kind arguments) [ true ↦ tried (tries (suc k) bodies) (body_number b.here k) body | false ↦ tries (suc k) bodies ]
+
+abbrev pub entered : Table → (args : Value) → Calling → Option BlockAt → (block environment : ℕ) → Values → Arguments → Does Value
+entered t args h None _ _ _ _ = fault NoBody
+entered t args h (Some b) block environment operands on = tries t args h b block environment operands on b.first b.block.bodies
+
+abbrev pub replies : Table → (args : Value) → Replies Halted State
+replies t args = record {
+  enter = λ room h block. entered t args h (slice_get t.blocks block) block;
+  turn = stepped (λ s. Gives tt s);
+  write = λ text s. Gives tt (wrote text s);
+}
+
+-- how calls run where at most so many may be open
+abbrev pub runs : Table → (args : Value) → (room : ℕ) → Calling
+runs t args room = calls (replies t args) room

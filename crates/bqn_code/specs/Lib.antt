@@ -1,0 +1,16 @@
+pub mod Plain
+pub mod Levels
+pub mod Actions
+pub mod Making
+pub mod States
+pub mod Numbering
+pub mod Variables
+pub mod Patterns
+pub mod Operands
+pub mod Execution
+pub mod Programs
+pub mod Heights
+pub mod Standing
+pub mod Conditions
+pub mod Verified
+pub mod Sureness
