@@ -13,16 +13,19 @@ use Rattle.bqn_syntax.specs.declared.tree.Class.TheVariants as class
 use Rattle.bqn_code.specs.declared.instr.Instr.{Instr}
 use Rattle.bqn_code.specs.declared.instr.Instr.TheVariants as instr
 use Rattle.bqn_code.specs.Plain.{Pattern, Skip, Define, Change, ListPattern, Literal, Patterns, no_patterns, and_patterns}
-use Rattle.bqn_code.specs.Actions.{go_on, ◌>>=◌, pure, known, found, used, where_so}
+use Rattle.bqn_syntax.specs.Actions.{go_on, ◌>>=◌, pure, known, found, used, where_so}
 use Rattle.bqn_base.specs.declared.fault.Fault.TheVariants.{Undefined, TooDeep}
-use Rattle.bqn_code.specs.Making.{Fit, Fits, Mismatch, Missing, listed, atop, fork, truth, does_fit, left_of, right_of, left_operand, right_operand, modifier_of}
+use Rattle.bqn_syntax.specs.Frames.{left_of, right_of, left_operand, right_operand, modifier_of}
+use Rattle.bqn_syntax.specs.Matching.{Fit, Fits, Mismatch, Missing, and_fit, must_fit, does_fit}
+use Rattle.bqn_syntax.specs.Deriving.{listed, with_one, with_two, modified_one, modified_two, atop, fork, applied}
+use Rattle.bqn_syntax.specs.Meaning.{Ending, NextBody, EndsWith, truth}
 use Rattle.bqn_code.specs.States.{State, Halted, Spends, Sticks, Does, Ran, Calling, stuck, stepped, wrote}
 use Rattle.bqn_code.specs.Numbering.{Table, BlockAt, BodyAt, body_number, class_of}
 use Rattle.bqn_code.specs.Variables as v
 use Rattle.bqn_code.specs.Variables.{Frame}
 use Rattle.bqn_code.specs.Patterns as p
 use Rattle.bqn_code.specs.Operands as o
-use Rattle.bqn_code.specs.Operands.{Stack, Ending, Go, one, pair, triple, taken, pushed, value}
+use Rattle.bqn_code.specs.Operands.{Stack, Go, one, pair, triple, taken, pushed, value}
 use Rattle.bqn_code.specs.Execution as e
 use Rattle.bqn_code.specs.Heights.{takes, gives, is_last, is_balanced, is_empty}
 use Rattle.bqn_code.specs.declared.constant.Const.{Const}
@@ -120,7 +123,7 @@ module _ (t : Table) (f : Frame) where
   field_sure name (Modifier1 b e) = λ s. tt
   field_sure name (Modifier2 b e) = λ s. tt
 
-  and_sure : (m : Does Fit) → AllSure m → (r : Fit) → AllSure (p.and_fit m r)
+  and_sure : (m : Does Fit) → AllSure m → (r : Fit) → AllSure (and_fit m r)
   and_sure m a Fits = a
   and_sure m a Mismatch = λ s. tt
   and_sure m a Missing = λ s. tt
@@ -152,7 +155,7 @@ module _ (t : Table) (f : Frame) where
     fields_sure no_patterns n = λ s. tt
     fields_sure (and_patterns q qs) n = bind_sure (v.field t (p.name_of f q) (Namespace n)) _ (field_sure (p.name_of f q) (Namespace n)) (λ x. bind_sure (p.fit t f q x) _ (fit_sure q x) (and_sure (p.fields_fit t f qs n) (fields_sure qs n)))
 
-  must_sure : (r : Fit) → AllSure (p.must_fit r)
+  must_sure : (r : Fit) → AllSure (must_fit r)
   must_sure Fits s = tt
   must_sure Mismatch s = tt
   must_sure Missing s = tt
@@ -190,16 +193,16 @@ module _ (t : Table) (args : Value) (h : Calling) (hs : (c : Call) → AllSure (
   pattern_sure None go there a = absurd (no there)
   pattern_sure (Some r) go there a = a r
 
-  applied_sure : (g w x : Option Value) → AllSure (o.applied h g w x)
+  applied_sure : (g w x : Option Value) → AllSure (applied h g w x)
   applied_sure None w x = λ s. tt
   applied_sure (Some g) w None = λ s. tt
   applied_sure (Some g) w (Some x) = value_sure (h (call g w x)) (hs (call g w x))
 
-  one_modified : (m g : Option Value) → AllSure (o.modified_one (class_of t) h m g)
-  one_modified m g = used_sure m _ (λ m. used_sure g _ (λ g. hs (o.with_one (class_of t) m g)))
+  one_modified : (m g : Option Value) → AllSure (modified_one (class_of t) h m g)
+  one_modified m g = used_sure m _ (λ m. used_sure g _ (λ g. value_sure _ (hs (with_one (class_of t) m g))))
 
-  two_modified : (m g k : Option Value) → AllSure (o.modified_two (class_of t) h m g k)
-  two_modified m g k = used_sure m _ (λ m. used_sure g _ (λ g. used_sure k _ (λ k. hs (o.with_two (class_of t) m g k))))
+  two_modified : (m g k : Option Value) → AllSure (modified_two (class_of t) h m g k)
+  two_modified m g k = used_sure m _ (λ m. used_sure g _ (λ g. used_sure k _ (λ k. value_sure _ (hs (with_two (class_of t) m g k)))))
 
   -- each stack of this height
   abbrev After : ℕ → Go → Type 0
@@ -208,7 +211,7 @@ module _ (t : Table) (args : Value) (h : Calling) (hs : (c : Call) → AllSure (
   pushed_sure : (m : Does (Option Value)) (next : Go) (st : Stack) (height : ℕ) → AllSure m → suc (length st) ≡ height → After height next → AllSure (o.pushed m next st)
   pushed_sure m next st height a q k = bind_sure m _ a (λ x. k (x ∷ st) q)
 
-  given_sure : (code : ℕ) → IsTrue (nat_lt code 70) → AllSure (o.given args code)
+  given_sure : (code : ℕ) → IsTrue (nat_lt code 70) → AllSure (o.given_value args code)
   given_sure code there = by (is_given code) refl (nat_eq code 69) refl
     where
       by : (b : Bool) → is_given code ≡ b → (c : Bool) → nat_eq code 69 ≡ c → AllSure {A = Value} (elim b [ true ↦ pure (Given code) | false ↦ elim c [ true ↦ pure args | false ↦ stuck ] ])
@@ -218,7 +221,7 @@ module _ (t : Table) (args : Value) (h : Calling) (hs : (c : Call) → AllSure (
 
   act_sure : (i : Instr) (next : Go) (st : Stack) → IsTrue (has_object t f.here i) → takes i ≤ length st → is_last i ≡ false → After (length st - takes i + gives i) next → AllSure (e.act t args h f i next st)
   act_sure (instr.Const k) next st there q l a = pushed_sure (value (o.constant (slice_get f.here.code.constants k))) next st _ (value_sure _ (constant_sure (slice_get f.here.code.constants k) there)) (omega arith) a
-  act_sure (instr.Given code) next st there q l a = pushed_sure (value (o.given args code)) next st _ (value_sure _ (given_sure code there)) (omega arith) a
+  act_sure (instr.Given code) next st there q l a = pushed_sure (value (o.given_value args code)) next st _ (value_sure _ (given_sure code there)) (omega arith) a
   act_sure instr.Nothing next st there q l a = a (None ∷ st) (omega arith)
   act_sure (instr.Block zero) next st there q l a = absurd (no there)
   act_sure (instr.Block (suc b)) next st there q l a = pushed_sure (value (o.block_value h (class_of t (f.here.blocks + suc b)) (f.here.blocks + suc b) f.environment)) next st _ (value_sure _ (block_value_sure (class_of t (f.here.blocks + suc b)) _ _ there)) (omega arith) a
@@ -229,16 +232,16 @@ module _ (t : Table) (args : Value) (h : Calling) (hs : (c : Call) → AllSure (
   act_sure (instr.Change up slot) next st there q l a = one_sure _ st q (λ x rest m. pushed_sure (e.stays (v.change t f up slot) x) next rest _ (stays_sure (v.change t f up slot) (change_sure t f up slot) x) (omega arith) a)
   act_sure instr.Pop next st there q l a = one_sure (λ x. next) st q (λ x rest m. a rest (omega arith))
   act_sure (instr.List n) next st there q l a = taken_sure n (Some none) _ st q (λ xs rest m. pushed_sure (value (known (listed xs))) next rest _ (value_sure (known (listed xs)) (known_sure (listed xs))) (omega arith) a)
-  act_sure instr.Call1 next st there q l a = pair_sure _ st q (λ g x rest m. pushed_sure (o.applied h g None x) next rest _ (applied_sure g None x) (omega arith) a)
-  act_sure instr.Call2 next st there q l a = triple_sure _ st q (λ w g x rest m. pushed_sure (o.applied h g w x) next rest _ (applied_sure g w x) (omega arith) a)
-  act_sure instr.Derive1 next st there q l a = pair_sure _ st q (λ g k rest m. pushed_sure (value (o.modified_one (class_of t) h k g)) next rest _ (value_sure _ (one_modified k g)) (omega arith) a)
-  act_sure instr.Derive2 next st there q l a = triple_sure _ st q (λ g k j rest m. pushed_sure (value (o.modified_two (class_of t) h k g j)) next rest _ (value_sure _ (two_modified k g j)) (omega arith) a)
+  act_sure instr.Call1 next st there q l a = pair_sure _ st q (λ g x rest m. pushed_sure (applied h g None x) next rest _ (applied_sure g None x) (omega arith) a)
+  act_sure instr.Call2 next st there q l a = triple_sure _ st q (λ w g x rest m. pushed_sure (applied h g w x) next rest _ (applied_sure g w x) (omega arith) a)
+  act_sure instr.Derive1 next st there q l a = pair_sure _ st q (λ g k rest m. pushed_sure (modified_one (class_of t) h k g) next rest _ (one_modified k g) (omega arith) a)
+  act_sure instr.Derive2 next st there q l a = triple_sure _ st q (λ g k j rest m. pushed_sure (modified_two (class_of t) h k g j) next rest _ (two_modified k g j) (omega arith) a)
   act_sure instr.Train2 next st there q l a = pair_sure _ st q (λ g k rest m. pushed_sure (value (known (atop g k))) next rest _ (value_sure (known (atop g k)) (known_sure (atop g k))) (omega arith) a)
   act_sure instr.Train3 next st there q l a = triple_sure _ st q (λ g k j rest m. pushed_sure (value (known (fork g k j))) next rest _ (value_sure (known (fork g k j)) (known_sure (fork g k j))) (omega arith) a)
   act_sure (instr.Field k) next st there q l a = one_sure _ st q (λ x rest m. pushed_sure (value (used x >>= v.field t (slice_get f.here.code.names k))) next rest _ (value_sure _ (used_sure x _ (field_sure t f (slice_get f.here.code.names k)))) (omega arith) a)
   act_sure (instr.Bind k) next st there q l a = pattern_sure (slice_get f.here.code.patterns k) _ there (λ r. one_sure _ st q (λ x rest m. pushed_sure (e.stays (p.bind t f r) x) next rest _ (stays_sure (p.bind t f r) (bind_pattern_sure t f r) x) (omega arith) a))
-  act_sure (instr.Match k) next st there q l a = pattern_sure (slice_get f.here.code.patterns k) _ there (λ r. one_sure _ st q (λ x rest m. used_sure x _ (λ y. bind_sure (p.fit t f r y) _ (fit_sure t f r y) (λ u. where_sure o.NextBody (next rest) (a rest (omega arith)) (does_fit u)))))
-  act_sure instr.Check next st there q l a = one_sure _ st q (λ x rest m. used_sure x _ (λ y. bind_sure (known (truth y)) _ (known_sure (truth y)) (where_sure o.NextBody (next rest) (a rest (omega arith)))))
+  act_sure (instr.Match k) next st there q l a = pattern_sure (slice_get f.here.code.patterns k) _ there (λ r. one_sure _ st q (λ x rest m. used_sure x _ (λ y. bind_sure (p.fit t f r y) _ (fit_sure t f r y) (λ u. where_sure NextBody (next rest) (a rest (omega arith)) (does_fit u)))))
+  act_sure instr.Check next st there q l a = one_sure _ st q (λ x rest m. used_sure x _ (λ y. bind_sure (known (truth y)) _ (known_sure (truth y)) (where_sure NextBody (next rest) (a rest (omega arith)))))
   act_sure instr.Left next st there q l a = a (left_of f.arguments ∷ st) (omega arith)
   act_sure instr.Right next st there q l a = pushed_sure (value (found Undefined (right_of f.arguments))) next st _ (value_sure _ (found_sure Undefined (right_of f.arguments))) (omega arith) a
   act_sure instr.Own next st there q l a = a (_ ∷ st) (omega arith)
@@ -278,8 +281,8 @@ within_sure : {A : Type 0} (body slots parent : ℕ) (next : ℕ → Does A) →
 within_sure body slots parent next a s = a (length s.environments) _
 
 or_else_sure : (others : Does Value) → AllSure others → (r : Ending) → AllSure (e.or_else others r)
-or_else_sure others a o.NextBody = a
-or_else_sure others a (o.EndsWith x) = found_sure _ x
+or_else_sure others a NextBody = a
+or_else_sure others a (EndsWith x) = found_sure _ x
 
 module _ (t : Table) (args : Value) (h : Calling) (hs : (c : Call) → AllSure (h c)) (b : BlockAt) (block outer : ℕ) (operands : Values) (arguments : Arguments) where
   tries_sure : (k : ℕ) (bodies : List Body) → IsTrue (list_all (is_sound t b.here) bodies) → AllSure (e.tries t args h b block outer operands arguments k bodies)
@@ -317,8 +320,8 @@ runs_sure t args sound zero c = run_sure t args (λ b n fs xs s. Gives (Err TooD
 runs_sure t args sound (suc room) c = run_sure t args (λ b. e.entered t args (e.runs t args room) (slice_get t.blocks b) b) (e.runs t args room) (entered_sure t args sound (e.runs t args room) (runs_sure t args sound room)) (runs_sure t args sound room) c
 
 top_sure : (r : Ending) → AllSure (top_answer r)
-top_sure o.NextBody = λ s. tt
-top_sure (o.EndsWith x) = λ s. tt
+top_sure NextBody = λ s. tt
+top_sure (EndsWith x) = λ s. tt
 
 -- and no program is stuck
 pub programs_sure : (t : Table) (args : Value) (room : ℕ) → SoundTable t → AllSure (run_all t args room)

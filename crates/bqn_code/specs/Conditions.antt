@@ -3,6 +3,7 @@ use Rattle.std.specs.Prelude.{ℕ, zero, suc, ◌+◌, ◌^◌, max, nat_eq, nat
 use Rattle.std.specs.List.{list_all, list_any}
 use Rattle.bqn_syntax.specs.declared.tree.Class.{Class}
 use Rattle.bqn_syntax.specs.declared.tree.Class.TheVariants as class
+use Rattle.bqn_syntax.specs.Deriving.{waits}
 use Rattle.bqn_code.specs.declared.constant.Const.{Const}
 use Rattle.bqn_code.specs.declared.constant.Const.TheVariants as const
 use Rattle.bqn_code.specs.declared.instr.Instr.{Instr}
@@ -76,20 +77,13 @@ immediate_blocks_are_run code = every_instr (λ body i. runs_immediate code i) c
 abbrev pub blocks_have_bodies : Code → Bool
 blocks_have_bodies code = list_all (λ block. not (is_empty block.bodies)) code.blocks
 
--- whether a block of this class is run on arguments
-abbrev pub has_arguments : Class → Bool
-has_arguments class.Function = true
-has_arguments class.Mod1Deferred = true
-has_arguments class.Mod2Deferred = true
-has_arguments _ = false
-
 abbrev pub is_kind_for : (arguments : Bool) → (kind : ℕ) → Bool
 is_kind_for true kind = nat_le kind 2
 is_kind_for false kind = nat_eq kind 0
 
 -- each kind is 0, 1 or 2, and 0 where there are no arguments
 abbrev pub kinds_fit : Code → Bool
-kinds_fit code = every_body (λ b. is_kind_for (has_arguments b.block.class) b.body.kind) code
+kinds_fit code = every_body (λ b. is_kind_for (waits b.block.class) b.body.kind) code
 
 -- ---- constants, names, patterns and given values
 
@@ -229,9 +223,9 @@ is_modifier2 class.Mod2Deferred = true
 is_modifier2 _ = false
 
 abbrev pub is_run_on : Class → Instr → Bool
-is_run_on c instr.Left = has_arguments c
-is_run_on c instr.Right = has_arguments c
-is_run_on c instr.Own = has_arguments c
+is_run_on c instr.Left = waits c
+is_run_on c instr.Right = waits c
+is_run_on c instr.Own = waits c
 is_run_on c instr.LeftOperand = is_modifier c
 is_run_on c instr.Modifier = is_modifier c
 is_run_on c instr.RightOperand = is_modifier2 c

@@ -9,13 +9,16 @@ use Rattle.bqn_code.specs.declared.instr.Instr.{Instr}
 use Rattle.bqn_code.specs.declared.instr.Instr.TheVariants as instr
 use Rattle.bqn_code.specs.declared.code.Body.{Body}
 use Rattle.bqn_code.specs.Plain.{Pattern}
-use Rattle.bqn_code.specs.Actions.{◌>>=◌, pure, fault, known, found, used, where_so}
-use Rattle.bqn_code.specs.Making.{listed, left_of, right_of, left_operand, right_operand, modifier_of, atop, fork, truth, does_fit}
+use Rattle.bqn_syntax.specs.Actions.{◌>>=◌, pure, fault, known, found, used, where_so}
+use Rattle.bqn_syntax.specs.Frames.{left_of, right_of, left_operand, right_operand, modifier_of}
+use Rattle.bqn_syntax.specs.Matching.{does_fit}
+use Rattle.bqn_syntax.specs.Deriving.{listed, modified_one, modified_two, atop, fork, applied}
+use Rattle.bqn_syntax.specs.Meaning.{Ending, NextBody, EndsWith, truth}
 use Rattle.bqn_code.specs.States.{State, Halted, Does, Calling, stuck, stepped, wrote}
 use Rattle.bqn_code.specs.Numbering.{Table, BlockAt, block_number, body_number, class_of}
 use Rattle.bqn_code.specs.Variables.{Frame, load, define, change, field}
 use Rattle.bqn_code.specs.Patterns.{fit, bind}
-use Rattle.bqn_code.specs.Operands.{Ending, NextBody, EndsWith, Go, one, pair, triple, taken, pushed, value, constant, given, block_value, block_answer, applied, modified_one, modified_two, returned, left_space}
+use Rattle.bqn_code.specs.Operands.{Go, one, pair, triple, taken, pushed, value, constant, given_value, block_value, block_answer, returned, left_space}
 
 -- a pattern, where there is one with this number
 abbrev pub with_pattern : Option Pattern → (Pattern → Does Ending) → Does Ending
@@ -31,7 +34,7 @@ module _ (t : Table) (args : Value) (h : Calling) (f : Frame) where
   -- an instruction, and what comes after it
   abbrev pub act : Instr → Go → Go
   act (instr.Const k) next st = pushed (value (constant (slice_get f.here.code.constants k))) next st
-  act (instr.Given code) next st = pushed (value (given args code)) next st
+  act (instr.Given code) next st = pushed (value (given_value args code)) next st
   act instr.Nothing next st = next (None ∷ st)
   act (instr.Block b) next st = pushed (value (block_value h (class_of t (block_number f.here b)) (block_number f.here b) f.environment)) next st
   act (instr.Run b) next st = pushed (value (block_answer h (class_of t (block_number f.here b)) (block_number f.here b) f.environment)) next st
@@ -42,8 +45,8 @@ module _ (t : Table) (args : Value) (h : Calling) (f : Frame) where
   act (instr.List n) next st = taken n (Some none) (λ xs. pushed (value (known (listed xs))) next) st
   act instr.Call1 next st = pair (λ g x. pushed (applied h g None x) next) st
   act instr.Call2 next st = triple (λ w g x. pushed (applied h g w x) next) st
-  act instr.Derive1 next st = pair (λ g m. pushed (value (modified_one (class_of t) h m g)) next) st
-  act instr.Derive2 next st = triple (λ g m k. pushed (value (modified_two (class_of t) h m g k)) next) st
+  act instr.Derive1 next st = pair (λ g m. pushed (modified_one (class_of t) h m g) next) st
+  act instr.Derive2 next st = triple (λ g m k. pushed (modified_two (class_of t) h m g k) next) st
   act instr.Train2 next st = pair (λ g k. pushed (value (known (atop g k))) next) st
   act instr.Train3 next st = triple (λ e g k. pushed (value (known (fork e g k))) next) st
   act (instr.Field k) next st = one (λ x. pushed (value (used x >>= field t (slice_get f.here.code.names k))) next) st

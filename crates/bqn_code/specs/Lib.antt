@@ -1,7 +1,5 @@
 pub mod Plain
 pub mod Levels
-pub mod Actions
-pub mod Making
 pub mod States
 pub mod Numbering
 pub mod Variables

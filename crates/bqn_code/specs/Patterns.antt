@@ -3,13 +3,13 @@
 use Rattle.std.specs.Prelude.{ℕ, suc, nat_eq, Bool, true, ◌&&◌, [], ◌∷◌, List, slice_get, is_some, Option, Some, None, Result, Ok}
 use Rattle.std.specs.Option.{option_and_then}
 use Rattle.bqn_base.specs.declared.fault.Fault.{Fault}
-use Rattle.bqn_base.specs.declared.fault.Fault.TheVariants.{Pattern as NoMatch, NoField}
 use Rattle.bqn_base.specs.Plain.{Value, Number, Character, Array, Namespace, Values, more, count}
 use Rattle.bqn_code.specs.declared.constant.Const.{Const}
 use Rattle.bqn_code.specs.declared.constant.Const.TheVariants as const
 use Rattle.bqn_code.specs.Plain.{Pattern, Skip, Define, Change, ListPattern, Literal, Patterns, no_patterns, and_patterns}
-use Rattle.bqn_code.specs.Actions.{◌>>=◌, pure, fault, known, where_so}
-use Rattle.bqn_code.specs.Making.{text_value, Fit, Fits, Mismatch, Missing, literal_fit}
+use Rattle.bqn_syntax.specs.Actions.{◌>>=◌, pure, known, where_so}
+use Rattle.bqn_syntax.specs.Frames.{text_value}
+use Rattle.bqn_syntax.specs.Matching.{Fit, Fits, Mismatch, Missing, literal_fit, and_fit, must_fit}
 use Rattle.bqn_code.specs.States.{State, Does}
 use Rattle.bqn_code.specs.Numbering.{Table}
 use Rattle.bqn_code.specs.Variables.{Frame, define, change, field, field_place}
@@ -25,11 +25,6 @@ constant_fit None v = Ok Mismatch
 constant_fit (Some c) v = literal_fit (constant_value c) v
 
 -- ---- levels
-
--- the next part, where the one before fits
-abbrev pub and_fit : Does Fit → Fit → Does Fit
-and_fit next Fits = next
-and_fit next fit = pure fit
 
 abbrev pub parts : Patterns → ℕ
 parts no_patterns = 0
@@ -75,10 +70,5 @@ module _ (t : Table) (f : Frame) where
     fields_fit (and_patterns p ps) n = field t (name_of f p) (Namespace n) >>= (λ x. fit p x >>= and_fit (fields_fit ps n))
 
 -- in an assignment what doesn't fit is a fault
-abbrev pub must_fit : Fit → Does (Unit {0})
-must_fit Fits = pure tt
-must_fit Mismatch = fault NoMatch
-must_fit Missing = fault NoField
-
 abbrev pub bind : Table → Frame → Pattern → Value → Does (Unit {0})
 bind t f p v = fit t f p v >>= must_fit

@@ -3,7 +3,7 @@ use Rattle.std.specs.Prelude.{ℕ, zero, suc, List, ◌++◌, Option, Result, en
 use Rattle.bqn_base.specs.declared.fault.Fault.{Fault}
 use Rattle.bqn_base.specs.Plain.{Value}
 use Rattle.bqn_base.specs.Running.{Res, Ends, Runs}
-use Rattle.bqn_code.specs.Actions.{Action}
+use Rattle.bqn_syntax.specs.Actions.{Action}
 
 -- the number of the body for which it was made, that of the environment around it, and its variables by their slots
 pub record Environment : Type 0 where

@@ -7,7 +7,7 @@ use Rattle.bqn_base.specs.Plain.{Value, Values, Namespace}
 use Rattle.bqn_base.specs.Calls.{Arguments}
 use Rattle.bqn_base.specs.Running.{Gives}
 use Rattle.bqn_syntax.specs.declared.tree.Class.{Class}
-use Rattle.bqn_code.specs.Actions.{found, fault, ◌>>=◌}
+use Rattle.bqn_syntax.specs.Actions.{found, fault, ◌>>=◌}
 use Rattle.bqn_code.specs.States.{Environment, State, Does}
 use Rattle.bqn_code.specs.Numbering.{Placed, Table, parent_of, field_slot}
 

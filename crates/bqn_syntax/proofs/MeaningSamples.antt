@@ -8,14 +8,14 @@ use Rattle.bqn_base.specs.declared.fault.Fault.TheVariants.{Domain, DivideByZero
 use Rattle.bqn_base.specs.declared.refusal.Refusal.{Refusal}
 use Rattle.bqn_base.specs.declared.refusal.Refusal.TheVariants.{Undeclared}
 use Rattle.bqn_base.specs.Plain.{Value, Number, Character, Array, Given, Function, Namespace, none, values, count, unfilled, filled}
-use Rattle.bqn_base.specs.Running.{Res, Gives, Ends, calls as calls_run}
+use Rattle.bqn_base.specs.Running.{Gives, Ends, calls as calls_run}
 use Rattle.bqn_base.specs.Calls.{Turn, answer}
 use Rattle.bqn_syntax.specs.Tokens.{tokens_of_text}
 use Rattle.bqn_syntax.specs.Plain.{Stmts}
 use Rattle.bqn_syntax.specs.Parsing.{parsed}
 use Rattle.bqn_syntax.specs.Scope.{scope, Use, resolved, names_of}
 use Rattle.bqn_syntax.specs.Bodies.{bodies_of}
-use Rattle.bqn_syntax.specs.Environments.{State, Spent, look, define, change}
+use Rattle.bqn_syntax.specs.Environments.{State, Ran, look, define, change}
 use Rattle.bqn_syntax.specs.Blocks.{Numbered, Earlier, no_lines, further, table_of, all_bodies}
 use Rattle.bqn_syntax.specs.Actions.{◌>>=◌}
 use Rattle.bqn_syntax.specs.Meaning.{Outcome, Answers, Faults, IsSpent, evaluated_within, evaluated_of, replies, line, at_start}
@@ -42,7 +42,7 @@ seen (Answers (Some v)) = gives v
 seen (Faults f) = fails f
 seen IsSpent = spent
 
-abbrev seen_call : Res Spent State (Result Value Fault) → Seen
+abbrev seen_call : Ran Value → Seen
 seen_call (Gives (Ok v) s) = gives v
 seen_call (Gives (Err f) s) = fails f
 seen_call (Ends s) = spent
@@ -157,7 +157,20 @@ budget : budgets (codes "1") ∷ budgets (codes "") ∷ budgets (codes "{1}") �
 unfolding look define change
 budget = refl
 
-abbrev turned : (steps : ℕ) → Res Spent State (Result Value Fault)
+-- the state where one more step is needed than is left
+abbrev spent_at : Ran (Option Value) → Option State
+spent_at (Gives r s) = None
+spent_at (Ends s) = Some s
+
+abbrev spent_state : (steps : ℕ) → List ℕ → Option State
+spent_state steps text = elim (tree_of_text [] text) [ Err r ↦ None | Ok tree ↦ spent_at (line 50 no_lines (list []) tree (at_start steps)) ]
+
+keeps_its_state : spent_state 2 (codes "a←1⋄{a↩•Show 2⋄b←3⋄{4}}") ≡
+    Some (record { environments = record { body = 0; parent = 0; variables = (codes "a", n 2) ∷ (codes "a", n 1) ∷ [] } ∷ record { body = 1; parent = 0; variables = (codes "b", n 3) ∷ [] } ∷ []; written = codes "2\n"; left = 0 })
+unfolding look define change digits encode
+keeps_its_state = refl
+
+abbrev turned : (steps : ℕ) → Ran Value
 turned steps = calls_run (replies (record { blocks = []; args = n 0 })) 0 (Turn (λ u. answer (n 1))) (at_start steps)
 
 -- a turn is a step
@@ -194,9 +207,9 @@ reads = refl
 
 -- ---- lines of a session
 
-abbrev seen_line : Res Spent State (Result (Option Value) Fault) → (State → List Seen) → List Seen
+abbrev seen_line : Ran (Option Value) → (State → List Seen) → List Seen
 seen_line (Gives r s) next = seen (evaluated_of (Gives r s)).outcome ∷ next s
-seen_line (Ends spent') next = spent ∷ []
+seen_line (Ends s) next = spent ∷ []
 
 abbrev session : Earlier → State → List (List ℕ) → List Seen
 session earlier s [] = []
@@ -230,7 +243,7 @@ further_bodies = refl
 abbrev a_of : ℕ → List Numbered
 a_of number = record { number = number; scope = scope (codes "a" ∷ []) [] [] false } ∷ []
 
-abbrev read_after_store : (stored read : ℕ) → Res Spent State (Result Value Fault)
+abbrev read_after_store : (stored read : ℕ) → Ran Value
 read_after_store stored read = (define (a_of stored) 0 (codes "a") (n 5) >>= (λ u. look (a_of read) 0 (codes "a"))) (at_start 1)
 
 own_body : seen_call (read_after_store 0 0) ∷ seen_call (read_after_store 0 1) ∷ seen_call (read_after_store 1 0) ∷ [] ≡ gives (n 5) ∷ fails Undefined ∷ fails Undefined ∷ []

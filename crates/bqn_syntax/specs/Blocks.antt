@@ -1,6 +1,6 @@
 -- The blocks of a program in the text order of their opening braces, the program first, each with its bodies. Bodies are numbered
 -- through all blocks in this order.
-use Rattle.std.specs.Prelude.{ℕ, suc, ◌+◌, Bool, if◌then◌else◌, List, [], ◌∷◌, ◌++◌, length, map, slice_get, Option, None}
+use Rattle.std.specs.Prelude.{ℕ, suc, ◌+◌, Bool, if◌then◌else◌, List, [], ◌∷◌, ◌++◌, length, map, slice_get, Option, Some, None}
 use Rattle.bqn_syntax.specs.declared.tree.Class.{Class}
 use Rattle.bqn_syntax.specs.declared.tree.Class.TheVariants as class
 use Rattle.bqn_syntax.specs.Plain.{Header, Expr, Value, Train, Modifier, Use, One, Two, Part, Leaf, Elements, Merge, Paren, Block as Braces, Field, Strand, Nothing, Step, Apply, Assign, Modify, Stmt, Eval, Predicate, Export, BlockTree, block, BodyTree, body, Derived, derived, MaybePart, none, some, Exprs, no_exprs, and_exprs, Uses, no_uses, and_uses, Parts, no_parts, and_parts, Steps, no_steps, and_steps, Stmts, no_stmts, and_stmts, Bodies, no_bodies, and_bodies, Deriveds, no_deriveds, and_deriveds}
@@ -160,6 +160,14 @@ abbrev mutual
 abbrev pub all_bodies : List Block → List Body
 all_bodies [] = []
 all_bodies (b ∷ bs) = b.bodies ++ all_bodies bs
+
+abbrev pub class_in : Option Block → Option Class
+class_in None = None
+class_in (Some b) = Some b.class
+
+-- the class of the block with this number
+abbrev pub class_of : List Block → ℕ → Option Class
+class_of blocks number = class_in (slice_get blocks number)
 
 abbrev pub body_at : List Block → ℕ → Option Body
 body_at blocks number = slice_get (all_bodies blocks) number

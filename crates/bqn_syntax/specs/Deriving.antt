@@ -1,40 +1,35 @@
 -- What is made of values that are evaluated: lists, derived functions, trains and blocks' values; and calls with Nothing: BQN's
 -- pages on expressions, on trains and on blocks. The order in which faults are found is this project's own.
-use Rattle.std.specs.Prelude.{ℕ, Bool, true, false, if◌then◌else◌, List, [], ◌∷◌, slice_get, Option, Some, None, Result, Ok, Err}
+use Rattle.std.specs.Prelude.{ℕ, Bool, true, false, if◌then◌else◌, List, [], ◌∷◌, Option, Some, None, Result, Ok, Err}
 use Rattle.bqn_base.specs.declared.fault.Fault.{Fault}
 use Rattle.bqn_base.specs.declared.fault.Fault.TheVariants.{NotCallable, NothingUsed}
 use Rattle.bqn_base.specs.Plain.{Maker, One, Two, Atop, Fork, Value, Given, Function, Modifier1, Modifier2, Values, none, more, count, is_given_modifier1, is_given_modifier2}
+use Rattle.bqn_base.specs.Relations.{both}
 use Rattle.bqn_base.specs.Limits.{array, derived, block_function}
 use Rattle.bqn_base.specs.Calls.{no_arguments, Call, End, Enter, answer, fault as call_fault, call}
 use Rattle.bqn_base.specs.Running.{Runs}
 use Rattle.bqn_syntax.specs.declared.tree.Class.{Class}
 use Rattle.bqn_syntax.specs.declared.tree.Class.TheVariants as class
-use Rattle.bqn_syntax.specs.Actions.{◌>>=◌, pure, fault, known, used}
-use Rattle.bqn_syntax.specs.Blocks.{Block}
-use Rattle.bqn_syntax.specs.Environments.{State, Spent, Does}
+use Rattle.bqn_syntax.specs.Actions.{Action, ◌>>=◌, pure, fault, known, used}
 use Rattle.bqn_syntax.specs.Frames.{given}
 
 -- ---- lists
 
-abbrev pub and_element : Option Value → Option Values → Option Values
-and_element (Some x) (Some xs) = Some (more x xs)
-and_element _ _ = None
-
 -- the elements, where none is Nothing
 abbrev pub elements : List (Option Value) → Option Values
 elements [] = Some none
-elements (x ∷ xs) = and_element x (elements xs)
+elements (x ∷ xs) = both x (elements xs)
 
 -- their list; an empty one carries no fill
 abbrev pub listed : Option Values → Result Value Fault
 listed None = Err NothingUsed
 listed (Some xs) = array (count xs ∷ []) xs None
 
-abbrev pub list_of : List (Option Value) → Does Value
+abbrev pub list_of : {X S : Type 0} → List (Option Value) → Action X S Value
 list_of xs = known (listed (elements xs))
 
 -- `[..]`: the list, called with `>`
-abbrev pub merged : Runs Spent State → List (Option Value) → Does Value
+abbrev pub merged : {X S : Type 0} → Runs X S → List (Option Value) → Action X S Value
 merged h xs = list_of xs >>= (λ x. h (call (Given 13) None x))
 
 -- ---- blocks
@@ -58,30 +53,32 @@ standing class.Mod2Deferred b e = answer (Modifier2 b e)
 -- ---- modifiers with their operands
 
 -- a block's modifier makes a function, where it waits for arguments, and else it is run
-abbrev pub block_with : Option Block → (block environment : ℕ) → Values → Call
+abbrev pub block_with : Option Class → (block environment : ℕ) → Values → Call
 block_with None b e fs = call_fault NotCallable
-block_with (Some block) b e fs = if waits block.class then End (block_function b e fs) else Enter b e fs no_arguments End
+block_with (Some c) b e fs = if waits c then End (block_function b e fs) else Enter b e fs no_arguments End
 
 abbrev pub given_with : Bool → Maker → Values → Call
 given_with true maker fs = End (derived maker fs)
 given_with false maker fs = call_fault NotCallable
 
-abbrev pub with_one : List Block → (m f : Value) → Call
-with_one blocks (Given code) f = given_with (is_given_modifier1 code) (One code) (more f none)
-with_one blocks (Modifier1 b e) f = block_with (slice_get blocks b) b e (more f none)
-with_one blocks m f = call_fault NotCallable
+-- where blocks are of these classes
+module _ (class_of : ℕ → Option Class) where
+  abbrev pub with_one : (m f : Value) → Call
+  with_one (Given code) f = given_with (is_given_modifier1 code) (One code) (more f none)
+  with_one (Modifier1 b e) f = block_with (class_of b) b e (more f none)
+  with_one m f = call_fault NotCallable
 
-abbrev pub with_two : List Block → (m f g : Value) → Call
-with_two blocks (Given code) f g = given_with (is_given_modifier2 code) (Two code) (more f (more g none))
-with_two blocks (Modifier2 b e) f g = block_with (slice_get blocks b) b e (more f (more g none))
-with_two blocks m f g = call_fault NotCallable
+  abbrev pub with_two : (m f g : Value) → Call
+  with_two (Given code) f g = given_with (is_given_modifier2 code) (Two code) (more f (more g none))
+  with_two (Modifier2 b e) f g = block_with (class_of b) b e (more f (more g none))
+  with_two m f g = call_fault NotCallable
 
--- a part and a modifier, or two parts; Nothing as any of them is found before a wrong modifier
-abbrev pub modified_one : Runs Spent State → List Block → (m f : Option Value) → Does (Option Value)
-modified_one h blocks m f = used m >>= (λ m. used f >>= (λ f. h (with_one blocks m f) >>= given))
+  -- a part and a modifier, or two parts; Nothing as any of them is found before a wrong modifier
+  abbrev pub modified_one : {X S : Type 0} → Runs X S → (m f : Option Value) → Action X S (Option Value)
+  modified_one h m f = used m >>= (λ m. used f >>= (λ f. h (with_one m f) >>= given))
 
-abbrev pub modified_two : Runs Spent State → List Block → (m f g : Option Value) → Does (Option Value)
-modified_two h blocks m f g = used m >>= (λ m. used f >>= (λ f. used g >>= (λ g. h (with_two blocks m f g) >>= given)))
+  abbrev pub modified_two : {X S : Type 0} → Runs X S → (m f g : Option Value) → Action X S (Option Value)
+  modified_two h m f g = used m >>= (λ m. used f >>= (λ f. used g >>= (λ g. h (with_two m f g) >>= given)))
 
 -- ---- trains
 
@@ -124,7 +121,7 @@ train (Behind f g) = as_part (atop f g)
 -- ---- calls
 
 -- Nothing in function position is found first; as a right argument it is the answer, and no call is made
-abbrev pub applied : Runs Spent State → (f w x : Option Value) → Does (Option Value)
+abbrev pub applied : {X S : Type 0} → Runs X S → (f w x : Option Value) → Action X S (Option Value)
 applied h None w x = fault NothingUsed
 applied h (Some f) w None = pure None
 applied h (Some f) w (Some x) = h (call f w x) >>= given

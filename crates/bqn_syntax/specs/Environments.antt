@@ -1,9 +1,10 @@
 -- Environments, and reading and storing variables: BQN's page on scope. That an environment is told by its number, and is of use
 -- only to the body for which it was made, is this project's own.
-use Rattle.std.specs.Prelude.{ℕ, zero, suc, nat_eq, Bool, true, false, List, [], ◌∷◌, ◌++◌, length, map, slice_get, slice_set, Option, Some, None, Ok, encode_utf8_all}
+use Rattle.std.specs.Prelude.{ℕ, zero, suc, nat_eq, Bool, true, false, List, [], ◌∷◌, ◌++◌, length, map, slice_get, slice_set, Option, Some, None, Result, Ok, encode_utf8_all}
+use Rattle.bqn_base.specs.declared.fault.Fault.{Fault}
 use Rattle.bqn_base.specs.declared.fault.Fault.TheVariants.{Undefined}
 use Rattle.bqn_base.specs.Plain.{Value}
-use Rattle.bqn_base.specs.Running.{Res, Gives, Ends}
+use Rattle.bqn_base.specs.Running.{Res, Gives, Ends, Runs}
 use Rattle.bqn_syntax.specs.Scope.{Seen, same_name, sees}
 use Rattle.bqn_syntax.specs.Actions.{Action, fault, found}
 use Rattle.bqn_syntax.specs.Blocks.{Numbered}
@@ -20,18 +21,23 @@ pub record State : Type 0 where
   pub written : List ℕ
   pub left : ℕ
 
--- one more step is needed than is left; what was written before
-pub record Spent : Type 0 where
-  pub written : List ℕ
-
+-- an evaluation that needs one more step than is left ends at the state there
 abbrev pub Does : Type 0 → Type 0
-Does A = Action Spent State A
+Does A = Action State State A
+
+-- what evaluating gives
+abbrev pub Ran : Type 0 → Type 0
+Ran A = Res State State (Result A Fault)
+
+-- how calls run
+abbrev pub Calling : Type 0
+Calling = Runs State State
 
 -- ---- steps, texts and new environments
 
 -- one step, where one is left
-abbrev pub stepped : {A : Type 0} → (State → Res Spent State A) → State → Res Spent State A
-stepped go s = elim s.left [ zero ↦ Ends (record { written = s.written }) | suc n ↦ go (record s { left = n }) ]
+abbrev pub stepped : {A : Type 0} → (State → Res State State A) → State → Res State State A
+stepped go s = elim s.left [ zero ↦ Ends s | suc n ↦ go (record s { left = n }) ]
 
 abbrev pub wrote : List ℕ → State → State
 wrote text s = record s { written = s.written ++ encode_utf8_all text }

@@ -12,7 +12,7 @@ use Rattle.bqn_syntax.specs.declared.token.Kind.TheVariants as kind
 use Rattle.bqn_syntax.specs.declared.tree.Class.{Class}
 use Rattle.bqn_syntax.specs.declared.tree.Class.TheVariants as class
 use Rattle.bqn_syntax.specs.Scope.{same_name, system_names}
-use Rattle.bqn_syntax.specs.Actions.{◌>>=◌, pure, known}
+use Rattle.bqn_syntax.specs.Actions.{Action, ◌>>=◌, pure, known}
 use Rattle.bqn_syntax.specs.Blocks.{Numbered, Block}
 use Rattle.bqn_syntax.specs.Environments.{Does, look}
 
@@ -116,7 +116,7 @@ system_value args name = system_at args (position (λ other. same_name other nam
 -- ---- a token
 
 -- a value as a part gives it
-abbrev pub given : Value → Does (Option Value)
+abbrev pub given : {X S : Type 0} → Value → Action X S (Option Value)
 given v = pure (Some v)
 
 abbrev pub leaf : Setting → Frame → Kind → Does (Option Value)

@@ -15,7 +15,7 @@ use Rattle.bqn_syntax.specs.declared.tree.Arrow.{Arrow}
 use Rattle.bqn_syntax.specs.declared.tree.Arrow.TheVariants as arrow
 use Rattle.bqn_syntax.specs.Plain.{Pattern, Name, Skip, Literal, ListPattern, StrandPattern, Patterns, no_patterns, and_patterns, Header}
 use Rattle.bqn_syntax.specs.Scope.{name_of, has}
-use Rattle.bqn_syntax.specs.Actions.{◌>>=◌, pure, fault, known, found, used, where_so}
+use Rattle.bqn_syntax.specs.Actions.{Action, ◌>>=◌, pure, fault, known, found, used, where_so}
 use Rattle.bqn_syntax.specs.Blocks.{Block, Body, body_at}
 use Rattle.bqn_syntax.specs.Environments.{Environment, State, Does, value_in, define, change}
 use Rattle.bqn_syntax.specs.Frames.{Setting, Frame, literal, special_value, left_of, right_of}
@@ -74,7 +74,7 @@ pub data Fit : Type 0 where
   Fits Mismatch Missing : Fit
 
 -- the next pattern, where the one before fits
-abbrev pub and_fit : Does Fit → Fit → Does Fit
+abbrev pub and_fit : {X S : Type 0} → Action X S Fit → Fit → Action X S Fit
 and_fit next Fits = next
 and_fit next fit = pure fit
 
@@ -136,7 +136,7 @@ abbrev mutual
   all_fit g f a qs xs = pure Fits
 
 -- in an assignment
-abbrev pub must_fit : Fit → Does (Unit {0})
+abbrev pub must_fit : {X S : Type 0} → Fit → Action X S (Unit {0})
 must_fit Fits = pure tt
 must_fit Mismatch = fault NoMatch
 must_fit Missing = fault NoField

@@ -6,7 +6,7 @@ use Rattle.bqn_base.specs.declared.fault.Fault.TheVariants.{Domain, NoBody}
 use Rattle.bqn_base.specs.Plain as plain
 use Rattle.bqn_base.specs.Plain.{Number, Namespace, Values}
 use Rattle.bqn_base.specs.Calls.{Arguments, no_arguments, alone, two}
-use Rattle.bqn_base.specs.Running.{Res, Gives, Ends, Runs, Replies, calls}
+use Rattle.bqn_base.specs.Running.{Gives, Ends, Replies, calls}
 use Rattle.bqn_syntax.specs.declared.token.Token.{Token}
 use Rattle.bqn_syntax.specs.declared.tree.Class.TheVariants as class
 use Rattle.bqn_syntax.specs.declared.tree.Arrow.TheVariants as arrow
@@ -15,8 +15,8 @@ use Rattle.bqn_syntax.specs.Classes.{Calls, Monadic, Dyadic, Both}
 use Rattle.bqn_syntax.specs.Scope.{name_of, names_of, has}
 use Rattle.bqn_syntax.specs.Counting.{in_expr, in_part, in_maybe, in_steps, in_derived, in_use}
 use Rattle.bqn_syntax.specs.Actions.{◌>>=◌, pure, fault, known, used, where_so}
-use Rattle.bqn_syntax.specs.Blocks.{Block, Body, scopes_of, all_bodies, Earlier, no_lines, line_body, table_of}
-use Rattle.bqn_syntax.specs.Environments.{Environment, State, Spent, Does, stepped, wrote, within_new, look}
+use Rattle.bqn_syntax.specs.Blocks.{Block, Body, class_of, scopes_of, all_bodies, Earlier, no_lines, line_body, table_of}
+use Rattle.bqn_syntax.specs.Environments.{Environment, State, Ran, Does, Calling, stepped, wrote, within_new, look}
 use Rattle.bqn_syntax.specs.Frames.{Setting, Frame, args_value, given, leaf}
 use Rattle.bqn_syntax.specs.Matching.{field, store, assigned, bind, header_fits}
 use Rattle.bqn_syntax.specs.Deriving.{list_of, merged, standing, modified_one, modified_two, Reading, Unread, and_part, train, applied}
@@ -35,7 +35,7 @@ present f t = look f.scopes f.environment (name_of t)
 abbrev pub changed_to : Frame → Token → Option plain.Value → Does (Option plain.Value)
 changed_to f t v = used v >>= (λ y. store f arrow.Change t y >>= (λ u. pure (Some y)))
 
-module _ (h : Runs Spent State) (g : Setting) (f : Frame) where
+module _ (h : Calling) (g : Setting) (f : Frame) where
   -- each gives a value, or Nothing; the blocks in it are numbered from c on
   abbrev mutual
     pub eval_expr : Expr → (c : ℕ) → Does (Option plain.Value)
@@ -79,8 +79,8 @@ module _ (h : Runs Spent State) (g : Setting) (f : Frame) where
 
     -- the right operand, the modifier, the left operand
     pub eval_use : Use → ℕ → (inside : Does (Option plain.Value)) → Does (Option plain.Value)
-    eval_use (One m) c inside = eval_part m c >>= (λ n. inside >>= modified_one h g.blocks n)
-    eval_use (Two m x) c inside = eval_part x (c + (in_part m).blocks) >>= (λ r. eval_part m c >>= (λ n. inside >>= (λ l. modified_two h g.blocks n l r)))
+    eval_use (One m) c inside = eval_part m c >>= (λ n. inside >>= modified_one (class_of g.blocks) h n)
+    eval_use (Two m x) c inside = eval_part x (c + (in_part m).blocks) >>= (λ r. eval_part m c >>= (λ n. inside >>= (λ l. modified_two (class_of g.blocks) h n l r)))
 
     -- the parts of a train from the right
     pub eval_deriveds : Deriveds → ℕ → Does Reading
@@ -103,13 +103,13 @@ truth (Number (pos zero)) = Ok false
 truth (Number (pos (suc zero))) = Ok true
 truth v = Err Domain
 
--- a body is given up for the next one, or ends with the value of its last statement, or Nothing
-pub data Tried : Type 0 where
-  NextBody : Tried
-  EndsWith : Option plain.Value → Tried
+-- how a body ends: it is given up for the next one, or has an answer, which may be Nothing
+pub data Ending : Type 0 where
+  NextBody : Ending
+  EndsWith : Option plain.Value → Ending
 
 -- statements behind others, the last of which gave this; an export alone gives Nothing
-abbrev pub eval_stmts : Runs Spent State → Setting → Frame → Stmts → ℕ → Option plain.Value → Does Tried
+abbrev pub eval_stmts : Calling → Setting → Frame → Stmts → ℕ → Option plain.Value → Does Ending
 eval_stmts h g f no_stmts c last = pure (EndsWith last)
 eval_stmts h g f (and_stmts (Eval e) ss) c last = eval_expr h g f e c >>= eval_stmts h g f ss (c + (in_expr e).blocks)
 eval_stmts h g f (and_stmts (Predicate e) ss) c last = eval_expr h g f e c >>= used >>= (λ v. known (truth v) >>= where_so NextBody (eval_stmts h g f ss (c + (in_expr e).blocks) None))
@@ -120,7 +120,7 @@ abbrev pub body_answer : Body → Frame → Option plain.Value → Option plain.
 body_answer b f v = if b.exports then Some (Namespace f.environment) else v
 
 -- a body, where its header fits
-abbrev pub eval_body : Runs Spent State → Setting → Body → Frame → Does Tried
+abbrev pub eval_body : Calling → Setting → Body → Frame → Does Ending
 eval_body h g b f = header_fits g f b.header >>= where_so NextBody (eval_stmts h g f b.statements b.inside None)
 
 -- ---- blocks
@@ -137,17 +137,17 @@ abbrev pub frame_of : Body → (environment block : ℕ) → Block → (parent :
 frame_of b n number within parent operands xs = record { scopes = scopes_of b; environment = n; block = number; class = within.class; parent = parent; operands = operands; arguments = xs }
 
 -- a body that ends in Nothing, and exports nothing, is no use to a block; where it is given up, the next one is tried
-abbrev pub or_next : Does plain.Value → Body → Frame → Tried → Does plain.Value
+abbrev pub or_next : Does plain.Value → Body → Frame → Ending → Does plain.Value
 or_next next b f NextBody = next
 or_next next b f (EndsWith v) = used (body_answer b f v)
 
 -- one body: a step, and a new environment
-abbrev pub try_body : Runs Spent State → Setting → Does plain.Value → Body → (block : ℕ) → Block → (parent : ℕ) → Values → Arguments → Does plain.Value
+abbrev pub try_body : Calling → Setting → Does plain.Value → Body → (block : ℕ) → Block → (parent : ℕ) → Values → Arguments → Does plain.Value
 try_body h g next b number within parent operands xs =
     stepped (within_new b.own.number parent (λ n. eval_body h g b (frame_of b n number within parent operands xs) >>= or_next next b (frame_of b n number within parent operands xs)))
 
 -- the bodies in order, those for other calls skipped
-abbrev pub try_bodies : Runs Spent State → Setting → List Body → (block : ℕ) → Block → (parent : ℕ) → Values → Arguments → Does plain.Value
+abbrev pub try_bodies : Calling → Setting → List Body → (block : ℕ) → Block → (parent : ℕ) → Values → Arguments → Does plain.Value
 try_bodies h g [] number within parent operands xs = fault NoBody
 try_bodies h g (b ∷ bs) number within parent operands xs =
     elim (is_for b.calls xs) [
@@ -155,12 +155,12 @@ try_bodies h g (b ∷ bs) number within parent operands xs =
       | false ↦ try_bodies h g bs number within parent operands xs
     ]
 
-abbrev pub enter_block : Runs Spent State → Setting → Option Block → (block environment : ℕ) → Values → Arguments → Does plain.Value
+abbrev pub enter_block : Calling → Setting → Option Block → (block environment : ℕ) → Values → Arguments → Does plain.Value
 enter_block h g None number e operands xs = fault NoBody
 enter_block h g (Some within) number e operands xs = try_bodies h g within.bodies number within e operands xs
 
 -- what an evaluation does where a call asks: a turn takes a step
-abbrev pub replies : Setting → Replies Spent State
+abbrev pub replies : Setting → Replies State State
 replies g = record {
   enter = λ room inner number e operands xs. enter_block inner g (slice_get g.blocks number) number e operands xs;
   turn = stepped (λ s. Gives tt s);
@@ -189,7 +189,7 @@ abbrev pub line_frame : Body → Frame
 line_frame b = record { scopes = scopes_of b; environment = 0; block = 0; class = class.Immediate; parent = 0; operands = plain.none; arguments = no_arguments }
 
 -- a line's answer may be Nothing
-abbrev pub line_answer : Body → Tried → Does (Option plain.Value)
+abbrev pub line_answer : Body → Ending → Does (Option plain.Value)
 line_answer b NextBody = fault NoBody
 line_answer b (EndsWith v) = pure (body_answer b (line_frame b) v)
 
@@ -218,9 +218,9 @@ abbrev pub outcome_of : Result (Option plain.Value) Fault → Outcome
 outcome_of (Ok v) = Answers v
 outcome_of (Err f) = Faults f
 
-abbrev pub evaluated_of : Res Spent State (Result (Option plain.Value) Fault) → Evaluated
+abbrev pub evaluated_of : Ran (Option plain.Value) → Evaluated
 evaluated_of (Gives r s) = record { outcome = outcome_of r; written = s.written }
-evaluated_of (Ends spent) = record { outcome = IsSpent; written = spent.written }
+evaluated_of (Ends s) = record { outcome = IsSpent; written = s.written }
 
 -- `•args` is made before the first step
 abbrev pub with_args : (room : ℕ) → Stmts → (steps : ℕ) → Result plain.Value Fault → Evaluated
