@@ -5,8 +5,8 @@ use Rattle.bqn_base.specs.declared.fault.Fault.TheVariants.{TooLarge}
 use Rattle.bqn_base.specs.Plain.{Value, Character, Array, Values, values, unfilled}
 use Rattle.bqn_base.specs.Relations.{weights}
 use Rattle.bqn_base.specs.Limits.{is_small, is_low, is_shape, if_within, made}
-use Rattle.bqn_code.specs.declared.constant.Const.TheVariants as const
 use Rattle.bqn_syntax.specs.Matching.{Mismatch, literal_fit}
+use Rattle.bqn_code.specs.declared.constant.Const.TheVariants as const
 use Rattle.bqn_code.specs.Patterns.{constant_value, constant_fit}
 
 weights_of : (cs : List ℕ) → weights (values (map Character cs)) ≡ length cs

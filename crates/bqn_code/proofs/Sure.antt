@@ -5,20 +5,20 @@ use Rattle.std.proofs.lemmas.Bool.{leb-true, eqb-true}
 use Rattle.bqn_base.specs.declared.fault.Fault.{Fault}
 use Rattle.bqn_base.specs.Plain.{Value, Number, Character, Array, Given, Derived, Function, Modifier1, Modifier2, Namespace, Values, none, more, count, is_given}
 use Rattle.bqn_base.specs.Relations.{both}
-use Rattle.bqn_code.specs.declared.code.Body.{Body}
 use Rattle.bqn_base.specs.Calls.{Arguments, Call, End, Enter, Turn, Write, Inside, call}
 use Rattle.bqn_base.specs.Running.{Res, Gives, Ends, then_do, run}
+use Rattle.bqn_base.specs.declared.fault.Fault.TheVariants.{Undefined, TooDeep}
 use Rattle.bqn_syntax.specs.declared.tree.Class.{Class}
 use Rattle.bqn_syntax.specs.declared.tree.Class.TheVariants as class
-use Rattle.bqn_code.specs.declared.instr.Instr.{Instr}
-use Rattle.bqn_code.specs.declared.instr.Instr.TheVariants as instr
-use Rattle.bqn_code.specs.Plain.{Pattern, Skip, Define, Change, ListPattern, Literal, Patterns, no_patterns, and_patterns}
 use Rattle.bqn_syntax.specs.Actions.{go_on, ◌>>=◌, pure, known, found, used, where_so}
-use Rattle.bqn_base.specs.declared.fault.Fault.TheVariants.{Undefined, TooDeep}
 use Rattle.bqn_syntax.specs.Frames.{left_of, right_of, left_operand, right_operand, modifier_of}
 use Rattle.bqn_syntax.specs.Matching.{Fit, Fits, Mismatch, Missing, and_fit, must_fit, does_fit}
 use Rattle.bqn_syntax.specs.Deriving.{listed, with_one, with_two, modified_one, modified_two, atop, fork, applied}
 use Rattle.bqn_syntax.specs.Meaning.{Ending, NextBody, EndsWith, truth}
+use Rattle.bqn_code.specs.declared.code.Body.{Body}
+use Rattle.bqn_code.specs.declared.instr.Instr.{Instr}
+use Rattle.bqn_code.specs.declared.instr.Instr.TheVariants as instr
+use Rattle.bqn_code.specs.Plain.{Pattern, Skip, Define, Change, ListPattern, Literal, Patterns, no_patterns, and_patterns}
 use Rattle.bqn_code.specs.States.{State, Halted, Spends, Sticks, Does, Ran, Calling, stuck, stepped, wrote}
 use Rattle.bqn_code.specs.Numbering.{Table, BlockAt, BodyAt, body_number, class_of}
 use Rattle.bqn_code.specs.Variables as v

@@ -5,15 +5,15 @@ use Rattle.bqn_base.specs.declared.fault.Fault.TheVariants.{Undefined, NoBody}
 use Rattle.bqn_base.specs.Plain.{Value, Function, Values, none}
 use Rattle.bqn_base.specs.Calls.{Arguments, alone, two}
 use Rattle.bqn_base.specs.Running.{Gives, Replies, calls}
-use Rattle.bqn_code.specs.declared.instr.Instr.{Instr}
-use Rattle.bqn_code.specs.declared.instr.Instr.TheVariants as instr
-use Rattle.bqn_code.specs.declared.code.Body.{Body}
-use Rattle.bqn_code.specs.Plain.{Pattern}
 use Rattle.bqn_syntax.specs.Actions.{◌>>=◌, pure, fault, known, found, used, where_so}
 use Rattle.bqn_syntax.specs.Frames.{left_of, right_of, left_operand, right_operand, modifier_of}
 use Rattle.bqn_syntax.specs.Matching.{does_fit}
 use Rattle.bqn_syntax.specs.Deriving.{listed, modified_one, modified_two, atop, fork, applied}
 use Rattle.bqn_syntax.specs.Meaning.{Ending, NextBody, EndsWith, truth}
+use Rattle.bqn_code.specs.declared.instr.Instr.{Instr}
+use Rattle.bqn_code.specs.declared.instr.Instr.TheVariants as instr
+use Rattle.bqn_code.specs.declared.code.Body.{Body}
+use Rattle.bqn_code.specs.Plain.{Pattern}
 use Rattle.bqn_code.specs.States.{State, Halted, Does, Calling, stuck, stepped, wrote}
 use Rattle.bqn_code.specs.Numbering.{Table, BlockAt, block_number, body_number, class_of}
 use Rattle.bqn_code.specs.Variables.{Frame, load, define, change, field}

@@ -1,8 +1,8 @@
 -- The blocks and bodies of several codes by number. Those of a further code come behind those of the codes before it; only the
 -- programs and the top bodies of all codes have the number 0, since their variables are shared. All of it is this project's own.
-use Rattle.std.specs.Prelude.{ℕ, zero, suc, ◌+◌, ◌-◌, nat_eq, Bool, true, false, List, [], ◌∷◌, ◌++◌, length, map, slice_get, Option, Some, None}
-use Rattle.std.specs.Cmp.Lexicographic.{pointwise}
+use Rattle.std.specs.Prelude.{ℕ, zero, suc, ◌+◌, ◌-◌, Bool, true, false, List, [], ◌∷◌, ◌++◌, length, map, slice_get, Option, Some, None}
 use Rattle.bqn_syntax.specs.declared.tree.Class.{Class}
+use Rattle.bqn_syntax.specs.Scope.{same_name as same_spelling}
 use Rattle.bqn_code.specs.declared.code.Body.{Body}
 use Rattle.bqn_code.specs.declared.code.Block.{Block}
 use Rattle.bqn_code.specs.Plain.{Code}
@@ -91,7 +91,7 @@ class_of t block = class_in (slice_get t.blocks block)
 
 -- two names, each where its number has one
 abbrev pub same_name : Option (List ℕ) → Option (List ℕ) → Bool
-same_name (Some a) (Some b) = pointwise nat_eq a b
+same_name (Some a) (Some b) = same_spelling a b
 same_name _ _ = false
 
 -- the slot of the export with this name

@@ -4,11 +4,11 @@ use Rattle.bqn_base.specs.Plain.{Value, Given, Namespace, Values, is_given}
 use Rattle.bqn_base.specs.Relations.{both}
 use Rattle.bqn_syntax.specs.declared.tree.Class.{Class}
 use Rattle.bqn_syntax.specs.declared.tree.Class.TheVariants as class
-use Rattle.bqn_code.specs.declared.constant.Const.{Const}
 use Rattle.bqn_syntax.specs.Actions.{◌>>=◌, pure, known}
 use Rattle.bqn_syntax.specs.Frames.{given}
 use Rattle.bqn_syntax.specs.Deriving.{standing}
 use Rattle.bqn_syntax.specs.Meaning.{Ending, EndsWith}
+use Rattle.bqn_code.specs.declared.constant.Const.{Const}
 use Rattle.bqn_code.specs.States.{Does, Calling, stuck}
 use Rattle.bqn_code.specs.Patterns.{constant_value}
 

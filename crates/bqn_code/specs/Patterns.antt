@@ -4,12 +4,12 @@ use Rattle.std.specs.Prelude.{ℕ, suc, nat_eq, Bool, true, ◌&&◌, [], ◌∷
 use Rattle.std.specs.Option.{option_and_then}
 use Rattle.bqn_base.specs.declared.fault.Fault.{Fault}
 use Rattle.bqn_base.specs.Plain.{Value, Number, Character, Array, Namespace, Values, more, count}
-use Rattle.bqn_code.specs.declared.constant.Const.{Const}
-use Rattle.bqn_code.specs.declared.constant.Const.TheVariants as const
-use Rattle.bqn_code.specs.Plain.{Pattern, Skip, Define, Change, ListPattern, Literal, Patterns, no_patterns, and_patterns}
 use Rattle.bqn_syntax.specs.Actions.{◌>>=◌, pure, known, where_so}
 use Rattle.bqn_syntax.specs.Frames.{text_value}
 use Rattle.bqn_syntax.specs.Matching.{Fit, Fits, Mismatch, Missing, literal_fit, and_fit, must_fit}
+use Rattle.bqn_code.specs.declared.constant.Const.{Const}
+use Rattle.bqn_code.specs.declared.constant.Const.TheVariants as const
+use Rattle.bqn_code.specs.Plain.{Pattern, Skip, Define, Change, ListPattern, Literal, Patterns, no_patterns, and_patterns}
 use Rattle.bqn_code.specs.States.{State, Does}
 use Rattle.bqn_code.specs.Numbering.{Table}
 use Rattle.bqn_code.specs.Variables.{Frame, define, change, field, field_place}

@@ -6,10 +6,10 @@ use Rattle.bqn_base.specs.Plain.{Value, Array, none, unfilled}
 use Rattle.bqn_base.specs.Calls.{no_arguments}
 use Rattle.bqn_base.specs.Running.{Gives, Ends}
 use Rattle.bqn_syntax.specs.declared.tree.Class.TheVariants as class
-use Rattle.bqn_code.specs.Plain.{Code}
 use Rattle.bqn_syntax.specs.Actions.{◌>>=◌, pure, fault}
 use Rattle.bqn_syntax.specs.Frames.{args_value}
 use Rattle.bqn_syntax.specs.Meaning.{Ending, NextBody, EndsWith}
+use Rattle.bqn_code.specs.Plain.{Code}
 use Rattle.bqn_code.specs.States.{Environment, State, Spends, Sticks, Ran, Does, stuck, stepped}
 use Rattle.bqn_code.specs.Numbering.{BodyAt, Table, table_of}
 use Rattle.bqn_code.specs.Variables.{Frame}
