@@ -1,2 +1,4 @@
 mod Samples
 pub mod Spelling
+pub mod Backward
+pub mod Unstarted
