@@ -1,9 +1,10 @@
 -- What mentions and events stand for.
 use Rattle.std.specs.Prelude.{List, [], ◌∷◌, map, reverse}
 use Rattle.bqn_syntax.specs.declared.token.Token.{Token}
+use Rattle.bqn_syntax.specs.Plain as plain_tree
 use Rattle.bqn_syntax.specs.Order as order
 use Rattle.bqn_syntax.specs.Mentions as plain
-use Rattle.bqn_syntax.specs.Mentions.{Mentions, no_mentions, and_mentions, Scopes, no_scopes, and_scopes}
+use Rattle.bqn_syntax.specs.Mentions.{Mentions, no_mentions, and_mentions, Scopes, no_scopes, and_scopes, header_mentions, stmts_mentions}
 use Rattle.bqn_scope.specs.declared.mention.How.{How}
 use Rattle.bqn_scope.specs.declared.mention.How.TheVariants as how
 use Rattle.bqn_scope.specs.declared.mention.Event.{Event}
@@ -66,3 +67,7 @@ mentions_backward all = mentions_shown (reverse all)
 
 abbrev pub scopes_backward : List CodeOwn → Scopes
 scopes_backward all = scopes_shown (reverse all)
+
+-- what a body of a tree shows
+abbrev pub own_shown : plain_tree.BodyTree → Own
+own_shown (plain_tree.body h ss) = record { mentions = header_mentions h (stmts_mentions ss no_mentions); order = order.order_of h ss }

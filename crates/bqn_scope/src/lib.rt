@@ -3,8 +3,10 @@
 
 mod error;
 mod mention;
+mod mentions;
 mod names;
 mod order;
+mod places;
 #[cfg(test)]
 mod tests;
 
