@@ -7,6 +7,7 @@ mod mentions;
 mod names;
 mod order;
 mod places;
+mod spellings;
 #[cfg(test)]
 mod tests;
 
