@@ -2,3 +2,5 @@ mod Samples
 pub mod Spelling
 pub mod Backward
 pub mod Unstarted
+pub mod Spots
+pub mod Defining

@@ -1,4 +1,6 @@
 pub mod Names
+pub mod Tokens
+pub mod Defining
 pub mod Shown
 pub mod Levels
 pub mod Unstarted

@@ -1,6 +1,7 @@
 //! The names of a program, by their places.
 #![tactic(auto)]
 
+mod defined;
 mod error;
 mod mention;
 mod mentions;
