@@ -4,3 +4,5 @@ pub mod Backward
 pub mod Unstarted
 pub mod Spots
 pub mod Defining
+pub mod Waiting
+pub mod Slots

@@ -2,15 +2,19 @@
 #![tactic(auto)]
 
 mod defined;
+mod early;
 mod error;
 mod mention;
 mod mentions;
 mod names;
 mod order;
 mod places;
+mod scope;
 mod spellings;
+mod used;
 #[cfg(test)]
 mod tests;
 
 pub use error::ScopeError;
+pub use used::Use;
 pub use names::{Names, NamesError};
