@@ -6,3 +6,5 @@ pub mod Spots
 pub mod Defining
 pub mod Waiting
 pub mod Slots
+pub mod Uses
+pub mod Walked

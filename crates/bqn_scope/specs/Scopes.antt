@@ -1,12 +1,13 @@
 -- What the scopes of enclosing bodies stand for, and the uses that are written.
-use Rattle.std.specs.Prelude.{◌≡◌, ℕ, ◌+◌, Bool, true, false, List, [], map, reverse, Option, Result, Ok, Err}
+use Rattle.std.specs.Prelude.{◌≡◌, ℕ, ◌+◌, Bool, true, false, List, [], ◌∷◌, map, reverse, Option, Result, Ok, Err}
 use Rattle.std.specs.Option.{option_map}
 use Rattle.bqn_base.specs.declared.refusal.Refusal.{Refusal}
-use Rattle.bqn_syntax.specs.Scope.{Scope, Seen, Use}
+use Rattle.bqn_syntax.specs.Scope.{Scope, Seen, Use, uses_of, block_scope}
 use Rattle.bqn_scope.specs.declared.error.ScopeError.{ScopeError}
 use Rattle.bqn_scope.specs.declared.error.ScopeError.TheVariants.{Refused, Memory}
 use Rattle.bqn_scope.specs.declared.scope.Scope.{Scope as CodeScope}
 use Rattle.bqn_scope.specs.declared.used.Use.{Use as CodeUse}
+use Rattle.bqn_scope.specs.Shown.{Own}
 use Rattle.bqn_scope.specs.Tokens.{tokens_shown}
 
 -- the names that are known before a body: those of the session, unless it stands in a block
@@ -39,3 +40,13 @@ abbrev pub Writes : {T : Type 0} → Result (List Use) Refusal → List CodeUse 
 Writes answer new (Ok _) = answer ≡ Ok (uses_shown new)
 Writes answer new (Err (Refused r)) = answer ≡ Err r
 Writes answer new (Err Memory) = Unit {0}
+
+-- this is met, or else the refusal is that
+abbrev pub Passes : {T : Type 0} → Bool → Refusal → Result T ScopeError → Type 0
+Passes met r (Ok _) = met ≡ true
+Passes met r (Err (Refused other)) = (met ≡ false) × (other ≡ r)
+Passes met r (Err Memory) = Unit {0}
+
+-- the uses of a body of a block
+abbrev pub uses_of_own : List Scope → Own → List Use → Result (List Use) Refusal
+uses_of_own around own uses = uses_of (block_scope own.mentions own.order ∷ around) own.mentions uses

@@ -12,6 +12,7 @@ mod places;
 mod scope;
 mod spellings;
 mod used;
+mod walk;
 #[cfg(test)]
 mod tests;
 
