@@ -7,4 +7,4 @@ pub mod Defining
 pub mod Waiting
 pub mod Slots
 pub mod Uses
-pub mod Walked
+pub mod Numbering

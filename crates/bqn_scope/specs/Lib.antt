@@ -3,6 +3,7 @@ pub mod Tokens
 pub mod Defining
 pub mod Waiting
 pub mod Scopes
+pub mod Numbering
 pub mod Shown
 pub mod Levels
 pub mod Unstarted

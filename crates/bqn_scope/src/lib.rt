@@ -1,6 +1,7 @@
 //! The names of a program, by their places.
 #![tactic(auto)]
 
+mod body_names;
 mod defined;
 mod early;
 mod error;

@@ -1,9 +1,9 @@
-ghost use Rattle.std.specs.Prelude.{◌≡◌, IfOk};
+ghost use Rattle.std.specs.Prelude.{◌≡◌, ◌++◌, IfOk};
 ghost use Rattle.std.specs.Option.{option_map};
-ghost use Rattle.bqn_syntax.specs.Scope.{definitions, has, is_again, names_of, place_of, same_place, scope, sees};
+ghost use Rattle.bqn_syntax.specs.Scope.{definitions, has, is_again, place_of, same_place, scope, sees};
 ghost use Rattle.bqn_scope.specs.Scopes.{known_in, scope_shown, scopes_around, seen_of};
 ghost use Rattle.bqn_scope.specs.Shown.{events_shown, mentions_shown};
-ghost use Rattle.bqn_scope.specs.Tokens.{tokens_shown};
+ghost use Rattle.bqn_scope.specs.Tokens.{names_of_tokens, tokens_shown};
 
 use crate::defined::{Defined, definitions, name_of};
 use crate::early::too_early;
@@ -60,16 +60,21 @@ pub fn scope_of<'a>(
 
 /// The slot of a name in a body.
 #[tactic(auto, using(crate::proofs::Slots::slot_laws))]
-pub fn slot(scope: &Scope, outer: &Spellings, name: &[char]) -> Result<Option<usize>, ScopeError>
-    ensures { IfOk result (λ found. found ≡ place_of (names_of (scope_shown outer.now scope.now)) name.now) }
+pub fn slot(
+    defined: &Defined,
+    in_block: bool,
+    outer: &Spellings,
+    name: &[char],
+) -> Result<Option<usize>, ScopeError>
+    ensures { IfOk result (λ found. found ≡ place_of (known_in outer.now in_block ++ names_of_tokens (tokens_shown defined.now.places.tokens.items)) name.now) }
 {
-    if scope.in_block {
-        return Ok(scope.defined.names.position(name));
+    if in_block {
+        return Ok(defined.names.position(name));
     }
     if let Some(place) = outer.position(name) {
         return Ok(Some(place));
     }
-    match scope.defined.names.position(name) {
+    match defined.names.position(name) {
         Some(place) => match outer.len().checked_add(place) {
             Some(found) => Ok(Some(found)),
             None => Err(ScopeError::Memory),
@@ -90,7 +95,8 @@ pub fn sees(
     let mut index = scopes.len();
     'scopes: while index > 0 {
         index -= 1;
-        match slot(&scopes[index], outer, name) {
+        let scope = &scopes[index];
+        match slot(&scope.defined, scope.in_block, outer, name) {
             Ok(Some(place)) => return Ok(Some((scopes.len() - 1 - index, place))),
             Ok(None) => {}
             Err(error) => return Err(error),

@@ -93,7 +93,7 @@ fn define(
 fn show(scope: &Scope, outer: &Spellings, token: &Token) -> Result<(), ScopeError>
     ensures { Passes (text.has (text.names_of (scope_shown outer.now scope.now)) (text.name_of token.now)) (refusal.Undeclared token.now.place) result }
 {
-    match slot(scope, outer, name_of(token)) {
+    match slot(&scope.defined, scope.in_block, outer, name_of(token)) {
         Ok(Some(_)) => Ok(()),
         Ok(None) => Err(ScopeError::Refused(Refusal::Undeclared(token.place))),
         Err(_) => Err(ScopeError::Memory),

@@ -12,7 +12,7 @@ use std::alloc::Global;
 
 /// Writes the uses of mentions behind others, from the innermost of these bodies.
 #[cycle(walk)]
-#[tactic(auto, using(crate::specs::Levels::levels, crate::proofs::Walked::walk_laws))]
+#[tactic(auto, using(crate::specs::Levels::levels, crate::proofs::Uses::walk_laws))]
 pub fn walk<'a>(
     alloc: Global,
     outer: &Spellings,
@@ -34,7 +34,7 @@ pub fn walk<'a>(
 
 /// Writes the uses of one mention.
 #[cycle(walk)]
-#[tactic(auto, using(crate::specs::Levels::levels, crate::proofs::Walked::walk_laws))]
+#[tactic(auto, using(crate::specs::Levels::levels, crate::proofs::Uses::walk_laws))]
 fn mention<'a>(
     alloc: Global,
     outer: &Spellings,
@@ -55,7 +55,7 @@ fn mention<'a>(
 
 /// Writes the uses of the bodies of a block.
 #[cycle(walk)]
-#[tactic(auto, using(crate::specs::Levels::levels, crate::proofs::Walked::walk_laws))]
+#[tactic(auto, using(crate::specs::Levels::levels, crate::proofs::Uses::walk_laws))]
 fn inside<'a>(
     alloc: Global,
     outer: &Spellings,
@@ -77,7 +77,7 @@ fn inside<'a>(
 
 /// Writes the uses of one body of a block.
 #[cycle(walk)]
-#[tactic(auto, using(crate::specs::Levels::levels, crate::proofs::Walked::walk_laws))]
+#[tactic(auto, using(crate::specs::Levels::levels, crate::proofs::Uses::walk_laws))]
 fn body<'a>(
     alloc: Global,
     outer: &Spellings,
