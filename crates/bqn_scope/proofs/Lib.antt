@@ -7,4 +7,4 @@ pub mod Defining
 pub mod Waiting
 pub mod Slots
 pub mod Uses
-pub mod Numbering
+pub mod Exporting

@@ -35,7 +35,7 @@ fn exports_it(how: How) -> bool
 }
 
 /// The names of a body by their slots.
-#[tactic(auto, using(crate::proofs::Numbering::numbering_laws))]
+#[tactic(auto, using(crate::proofs::Exporting::numbering_laws))]
 fn slots(
     alloc: Global,
     outer: &Spellings,
@@ -53,7 +53,7 @@ fn slots(
 }
 
 /// One more mention.
-#[tactic(auto, using(crate::proofs::Numbering::numbering_laws))]
+#[tactic(auto, using(crate::proofs::Exporting::numbering_laws))]
 fn export(
     alloc: Global,
     outer: &Spellings,
@@ -90,7 +90,7 @@ fn export(
 }
 
 /// The exports of a body, in the text order of the first token that exports each.
-#[tactic(auto, using(crate::proofs::Numbering::numbering_laws))]
+#[tactic(auto, using(crate::proofs::Exporting::numbering_laws))]
 fn exports(
     alloc: Global,
     outer: &Spellings,
@@ -117,7 +117,7 @@ fn exports(
 }
 
 /// The names of a body with these mentions.
-#[tactic(auto, using(crate::proofs::Numbering::numbering_laws))]
+#[tactic(auto, using(crate::proofs::Exporting::numbering_laws))]
 pub fn body_names(
     alloc: Global,
     outer: &Spellings,

@@ -8,6 +8,7 @@ mod error;
 mod mention;
 mod mentions;
 mod names;
+mod numbering;
 mod order;
 mod places;
 mod scope;
