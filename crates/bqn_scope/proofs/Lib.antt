@@ -8,3 +8,4 @@ pub mod Waiting
 pub mod Slots
 pub mod Uses
 pub mod Exporting
+pub mod Program

@@ -4,6 +4,7 @@ pub mod Defining
 pub mod Waiting
 pub mod Scopes
 pub mod Numbering
+pub mod Resolving
 pub mod Shown
 pub mod Levels
 pub mod Unstarted

@@ -11,6 +11,7 @@ mod names;
 mod numbering;
 mod order;
 mod places;
+mod resolving;
 mod scope;
 mod spellings;
 mod used;
@@ -18,6 +19,8 @@ mod walk;
 #[cfg(test)]
 mod tests;
 
+pub use body_names::BodyNames;
 pub use error::ScopeError;
+pub use resolving::{Resolved, resolve};
 pub use used::Use;
 pub use names::{Names, NamesError};
