@@ -30,11 +30,4 @@ parts-given outer ss ms order bodies uses m o u b =
     ∙ ap (with_bodies (inside 0 ms (body_names (length outer) (top_scope outer ms order) ms ∷ []))) u
     ∙ ap (λ (found : List BodyNames). with_bodies found (Ok (uses_shown uses.items))) (sym b)
 
-pub refused : (T U A : Type 0) (outer : List (List ℕ)) (ss : Stmts) (ms : Mentions) (order : List (How × Token)) (e : ScopeError) → ms ≡ stmts_mentions ss no_mentions → order ≡ order_of None ss → GivesUses {A = T} (uses_of (top_scope outer ms order ∷ []) ms []) (Err e) → GivesParts {A = U} {B = A} (resolution outer ss) (Err e)
-unfolding resolution_from
-refused T U A outer ss ms order (Refused r) m o u =
-    same-from outer ss ms order m o
-    ∙ ap (with_bodies (inside 0 ms (body_names (length outer) (top_scope outer ms order) ms ∷ []))) u
-refused T U A outer ss ms order Memory m o u = tt
-
 pub ruleset program_laws = (parts-given)

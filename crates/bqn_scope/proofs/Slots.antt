@@ -37,7 +37,6 @@ module _ {X : Type 0} (p : X → Bool) where
 
   pub found-first : (xs ys : List X) (i : ℕ) → Some i ≡ position p xs → Some i ≡ position p (xs ++ ys)
   found-first xs ys i e =
-      let n : ℕ = position_or_len p xs in
       let below : position_or_len p xs < length xs = below-some (position_or_len p xs) (length xs) i (sym e) in
       let longer : position_or_len p xs < length (xs ++ ys) = omega (arith, length-append xs ys) in
       ap (λ (k : ℕ). Some k) (sym (is_some-at (position_or_len p xs) (length xs) i (sym e)))
@@ -83,9 +82,6 @@ sees-take outer all i s n inside is =
     ap (λ (xs : List CodeScope). sees (scopes_around outer xs) n) (take_more all i s inside)
     ∙ ap (λ (x : CodeScope). sees (scopes_around outer (take i all ++ x ∷ [])) n) (sym is)
     ∙ ap (λ (xs : List CodeScope). sees (map (scope_shown outer) xs) n) (reverse-append (take i all) (s ∷ []))
-
-seen : ℕ → ℕ → Seen
-seen up slot = record { up = up; slot = slot }
 
 raised-none : (found : Option Seen) → raised 0 found ≡ found
 raised-none None = refl
@@ -170,7 +166,6 @@ token-at (u ∷ us) (suc i) t e = token-at us i t e
 
 pub again-found : (tokens : List (Bor Token)) (t : Token) (d : Bor Token) (i : ℕ) → Some i ≡ place_of (names_of_tokens (tokens_shown tokens)) (name_of t) → d ≡ get_or tokens i d → not (same_place t d.now) ≡ is_again (tokens_shown tokens) t
 again-found tokens t d i e is =
-    let n : ℕ = position_or_len (λ o. same_name o (name_of t)) (names_of_tokens (tokens_shown tokens)) in
     let at : position_or_len (λ o. same_name o (name_of t)) (names_of_tokens (tokens_shown tokens)) ≡ i = is_some-at _ (length (names_of_tokens (tokens_shown tokens))) i (sym e) in
     let below : position_or_len (λ o. same_name o (name_of t)) (names_of_tokens (tokens_shown tokens)) < length (names_of_tokens (tokens_shown tokens)) = below-some (λ (o : List ℕ). same_name o (name_of t)) _ (length (names_of_tokens (tokens_shown tokens))) i (sym e) in
     again-at (tokens_shown tokens) t d.now (omega (arith, length-map (tokens_shown tokens) name_of)) (token-at tokens i d is ∙ ap (λ (k : ℕ). get_or (tokens_shown tokens) k d.now) (sym at))

@@ -1,4 +1,5 @@
-//! The names of a program, by their places.
+//! The names of a program: lists of names by their places, and the body and the slot that each
+//! name of a tree refers to.
 #![tactic(auto)]
 
 mod body_names;

@@ -97,13 +97,19 @@ fn expr<'a>(alloc: Global, mentions: &mut Vec<Mention<'a>>, e: &'a Expr) -> Resu
             }
             steps_of(alloc, mentions, steps.list())
         }
-        Expr::Train { targets, parts } => {
-            deriveds(alloc, mentions, parts.list())?;
-            crate::mentions::targets(mentions, targets.list())
+        Expr::Train {
+            targets: names,
+            parts: train,
+        } => {
+            deriveds(alloc, mentions, train.list())?;
+            targets(mentions, names.list())
         }
-        Expr::Modifier { targets, part } => {
-            crate::mentions::part(alloc, mentions, part)?;
-            crate::mentions::targets(mentions, targets.list())
+        Expr::Modifier {
+            targets: names,
+            part: x,
+        } => {
+            part(alloc, mentions, x)?;
+            targets(mentions, names.list())
         }
     }
 }

@@ -79,13 +79,19 @@ fn expr<'a>(events: &mut Vec<Event<'a>>, e: &'a Expr) -> Result<(), ScopeError>
                 part(events, x)
             }
         },
-        Expr::Train { targets, parts } => {
-            crate::order::targets(events, targets.list())?;
-            deriveds(events, parts.list())
+        Expr::Train {
+            targets: names,
+            parts: train,
+        } => {
+            targets(events, names.list())?;
+            deriveds(events, train.list())
         }
-        Expr::Modifier { targets, part } => {
-            crate::order::targets(events, targets.list())?;
-            crate::order::part(events, part)
+        Expr::Modifier {
+            targets: names,
+            part: x,
+        } => {
+            targets(events, names.list())?;
+            part(events, x)
         }
     }
 }
