@@ -11,11 +11,6 @@ use Rattle.bqn_scope.specs.Shown.{mention_of, mentions_shown}
 use Rattle.bqn_scope.specs.Tokens.{names_of_tokens}
 use Rattle.bqn_scope.specs.Defining.{defining, behind}
 
-or-swap : (a b c : Bool) → (a || (b || c)) ≡ (b || (a || c))
-or-swap true true c = refl
-or-swap true false c = refl
-or-swap false b c = refl
-
 has-behind : (ts : List Token) (known : List (List ℕ)) (n : List ℕ) → has (behind ts known) n ≡ (has (names_of_tokens ts) n || has known n)
 has-behind [] known n = refl
 has-behind (t ∷ ts) known n = has-behind ts (name_of t ∷ known) n ∙ swapped (same_name (name_of t) n) (has (names_of_tokens ts) n) (has known n)

@@ -85,18 +85,6 @@ module _ {A : Type 0} where
       ∙ spelled-pushed keys key
       ∙ ap (λ (spelling : List ℕ). spelled keys ++ spelling ∷ []) e
 
-  names-pushed : (keys : List (Vec ℕ A)) (key : Vec ℕ A) → AreNames keys → IsTrue (list_all is_name_character key.items) → AreNames (keys ++ key ∷ [])
-  names-pushed [] key h k = (k, tt)
-  names-pushed (other ∷ keys) key h k = (h.0, names-pushed keys key h.1 k)
-
-  pub names-inserted : (name : List ℕ) (keys : List (Vec ℕ A)) (key : Vec ℕ A) → key.items ≡ name → has (spelled keys) name ≡ false → IsTrue (list_all is_name_character name) → AreNames keys → AreNames (inserted keys key (list_any (same key.items) keys))
-  names-inserted name keys key e none k h = subst (λ (ks : List (Vec ℕ A)). AreNames ks) (sym (not-there name keys key e none)) (names-pushed keys key h (subst (λ (spelling : List ℕ). IsTrue (list_all is_name_character spelling)) (sym e) k))
-
-  pub name-at : (keys : List (Vec ℕ A)) (i : ℕ) (key : Vec ℕ A) → AreNames keys → i < length keys → IsTrue (list_all is_name_character (get_or keys i key).items)
-  name-at [] i key h l = absurd (omega arith)
-  name-at (k ∷ keys) zero key h l = h.0
-  name-at (k ∷ keys) (suc i) key h l = name-at keys i key h.1 (omega arith)
-
 pub ruleset name_laws = (place-spelled, has-spelled, length-spelled, distinct-spelled)
 
 pub ruleset added_laws = (added-full, added-new, absent)

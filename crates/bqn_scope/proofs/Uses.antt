@@ -80,4 +80,5 @@ pub named-shows : {T : Type 0} (outer : List (List ℕ)) (all around : List Code
 named-shows outer all around s t us r e h = writes-along _ _ us r (sym (ap (λ (xs : List Scope). named xs Shows t (uses_shown us)) (around-last outer all around s e))) (writes-unless _ _ us r h)
 
 pub ruleset use_laws = (uses-more, has-some, has-none, in-block-last, in-block-none, named-none)
+
 pub ruleset walk_laws = (around-last, writes-unless)

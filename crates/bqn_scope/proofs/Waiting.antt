@@ -136,10 +136,11 @@ early-end early waiting whole i all outside h =
 
 pub waiting-start : (marks : List Bool) (n : ℕ) (tokens : List (Bor Token)) (early : List (Bor Token)) (es : List (How × Token)) → marks ≡ replicate n true → n ≡ length tokens → early ≡ [] → (length marks ≡ length (tokens_shown tokens)) × (tokens_shown early ++ too_early (kept marks (tokens_shown tokens)) es ≡ too_early (tokens_shown tokens) es)
 waiting-start marks n tokens early es m l e =
-    let long : n ≡ length (tokens_shown tokens) = l ∙ sym (length-map tokens (λ (t : Bor Token). t.now)) in
-    (ap length m ∙ length-replicate n true ∙ long,
-    ap (λ (ts : List (Bor Token)). tokens_shown ts ++ too_early (kept marks (tokens_shown tokens)) es) e
-    ∙ ap (λ (ms : List Bool). too_early (kept ms (tokens_shown tokens)) es) m
-    ∙ ap (λ (ts : List Token). too_early ts es) (all-kept n (tokens_shown tokens) long))
+    let long : n ≡ length (tokens_shown tokens) = l ∙ sym (length-map tokens (λ (t : Bor Token). t.now)) in (
+      ap length m ∙ length-replicate n true ∙ long,
+      ap (λ (ts : List (Bor Token)). tokens_shown ts ++ too_early (kept marks (tokens_shown tokens)) es) e
+          ∙ ap (λ (ms : List Bool). too_early (kept ms (tokens_shown tokens)) es) m
+          ∙ ap (λ (ts : List Token). too_early ts es) (all-kept n (tokens_shown tokens) long),
+    )
 
 pub ruleset waiting_laws = (store-found, store-absent, waits-found, waits-absent, all-kept, early-more, early-end)

@@ -15,13 +15,13 @@ mod places;
 mod resolving;
 mod scope;
 mod spellings;
-mod used;
-mod walk;
 #[cfg(test)]
 mod tests;
+mod used;
+mod walk;
 
 pub use body_names::BodyNames;
 pub use error::ScopeError;
+pub use names::{Names, NamesError};
 pub use resolving::{Resolved, resolve};
 pub use used::Use;
-pub use names::{Names, NamesError};

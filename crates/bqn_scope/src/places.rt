@@ -44,7 +44,8 @@ impl<'a> Places<'a> {
         ensures within { IfSome result (λ place. place < length self.now.tokens.items) }
         ensures distinct { IsDistinct same_spot (spots_of (tokens_shown self.now.tokens.items)) }
     {
-        self.spots.get_index_of(&(token.place.line, token.place.column))
+        self.spots
+            .get_index_of(&(token.place.line, token.place.column))
     }
 }
 
