@@ -23,7 +23,7 @@ same-from : (outer : List (List ℕ)) (ss : Stmts) (ms : Mentions) (order : List
 unfolding resolution_from
 same-from outer ss ms order m o = ap (λ (x : Mentions). resolution_from outer x (order_of None ss)) (sym m) ∙ ap (λ (x : List (How × Token)). resolution_from outer ms x) (sym o)
 
-pub parts-given : {A B : Type 0} (outer : List (List ℕ)) (ss : Stmts) (ms : Mentions) (order : List (How × Token)) (bodies : Vec CodeBodyNames A) (uses : Vec CodeUse B) → ms ≡ stmts_mentions ss no_mentions → order ≡ order_of None ss → uses_of (top_scope outer ms order ∷ []) ms [] ≡ Ok (uses_shown uses.items) → bodies_shown bodies.items ≡ inside 0 ms (body_names (length outer) (top_scope outer ms []) ms ∷ []) → resolution outer ss ≡ Ok (resolution_of bodies uses)
+pub parts-given : {A B : Type 0} (outer : List (List ℕ)) (ss : Stmts) (ms : Mentions) (order : List (How × Token)) (bodies : Vec CodeBodyNames A) (uses : Vec CodeUse B) → ms ≡ stmts_mentions ss no_mentions → order ≡ order_of None ss → uses_of (top_scope outer ms order ∷ []) ms [] ≡ Ok (uses_shown uses.items) → bodies_shown bodies.items ≡ inside 0 ms (body_names (length outer) (top_scope outer ms []) ms ∷ []) → resolution outer ss ≡ Ok (resolution_of bodies.items uses.items)
 unfolding resolution_from
 parts-given outer ss ms order bodies uses m o u b =
     same-from outer ss ms order m o

@@ -15,7 +15,7 @@ exporting names found (Named how t) = if exports_it how && not (has (exported_na
 exporting names found m = found
 
 abbrev pub body_shown : BodyNames → bodies.BodyNames
-body_shown b = record { parent = b.parent; slots = b.slots.items; exports = b.exports.items }
+body_shown b = record { parent = b.parent; slots = b.slots; exports = b.exports }
 
 abbrev pub bodies_shown : List BodyNames → List bodies.BodyNames
 bodies_shown all = map body_shown all

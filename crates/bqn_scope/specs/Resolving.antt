@@ -12,8 +12,8 @@ use Rattle.bqn_scope.specs.declared.used.Use.{Use}
 use Rattle.bqn_scope.specs.Numbering.{bodies_shown}
 use Rattle.bqn_scope.specs.Scopes.{uses_shown}
 
-abbrev pub resolution_of : {A B : Type 0} → Vec BodyNames A → Vec Use B → Resolution
-resolution_of bodies uses = record { bodies = bodies_shown bodies.items; uses = uses_shown uses.items }
+abbrev pub resolution_of : List BodyNames → List Use → Resolution
+resolution_of bodies uses = record { bodies = bodies_shown bodies; uses = uses_shown uses }
 
 -- these uses are given, or this refusal; want of memory says nothing
 abbrev pub GivesUses : {A : Type 0} → Result (List scope.Use) Refusal → Result (Vec Use A) ScopeError → Type 0
@@ -23,7 +23,7 @@ GivesUses answer (Err Memory) = Unit {0}
 
 -- these bodies and uses are given, or this refusal; want of memory says nothing
 abbrev pub GivesParts : {A B : Type 0} → Result Resolution Refusal → Result (Vec BodyNames A × Vec Use B) ScopeError → Type 0
-GivesParts answer (Ok parts) = answer ≡ Ok (resolution_of parts.0 parts.1)
+GivesParts answer (Ok parts) = answer ≡ Ok (resolution_of parts.0.items parts.1.items)
 GivesParts answer (Err (Refused r)) = answer ≡ Err r
 GivesParts answer (Err Memory) = Unit {0}
 

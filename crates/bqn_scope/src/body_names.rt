@@ -11,7 +11,7 @@ use crate::error::ScopeError;
 use crate::mention::{How, Mention};
 use crate::scope::{definitions_in, slot};
 use crate::spellings::Spellings;
-use bqn_base::Name;
+use bqn_base::{Name, Row};
 use std::alloc::Global;
 
 /// A body's parent, which for the top body is the number of the session's names; its names by
@@ -20,8 +20,8 @@ use std::alloc::Global;
 #[derive(Drop)]
 pub struct BodyNames {
     pub parent: u32,
-    pub slots: Vec<Name>,
-    pub exports: Vec<(Name, u32)>,
+    pub slots: Row<Name>,
+    pub exports: Row<(Name, u32)>,
 }
 
 /// Whether a token exports its name.
@@ -132,7 +132,7 @@ pub fn body_names(
     let exports = exports(alloc, outer, in_block, &defined, mentions)?;
     Ok(BodyNames {
         parent,
-        slots: names,
-        exports,
+        slots: Row::new(names),
+        exports: Row::new(exports),
     })
 }

@@ -18,6 +18,7 @@ use crate::scope::scope_of;
 use crate::spellings::Spellings;
 use crate::used::Use;
 use crate::walk::walk;
+use bqn_base::Row;
 use bqn_syntax::{Stmt, Tree};
 use std::alloc::Global;
 
@@ -26,8 +27,8 @@ use std::alloc::Global;
 #[derive(Drop)]
 pub struct Resolved {
     pub tree: Tree,
-    pub bodies: Vec<BodyNames>,
-    pub uses: Vec<Use>,
+    pub bodies: Row<BodyNames>,
+    pub uses: Row<Use>,
 }
 
 /// The uses of a program with these mentions and this order.
@@ -103,7 +104,11 @@ pub fn resolve(alloc: Global, tree: Tree, outer: &Names) -> Result<Resolved, Sco
     ensures { Resolves (resolution outer.now (tree_of tree)) tree result }
 {
     match parts_of(alloc, outer.spellings(), tree.statements.list()) {
-        Ok((bodies, uses)) => Ok(Resolved { tree, bodies, uses }),
+        Ok((bodies, uses)) => Ok(Resolved {
+            tree,
+            bodies: Row::new(bodies),
+            uses: Row::new(uses),
+        }),
         Err(error) => Err(error),
     }
 }

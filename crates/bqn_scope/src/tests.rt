@@ -103,8 +103,8 @@ fn a_name_is_defined_and_read(rt: HostRuntime) -> Result<(), Fail> {
     let alloc = rt.alloc();
     let so = resolve(alloc, program(alloc)?, &Names::new(alloc))?;
     let use_at = [1, 5];
-    assert_eq!(rt; so.uses.len(), 2);
-    for (found, column) in so.uses.iter().zip(use_at) {
+    assert_eq!(rt; so.uses.list().len(), 2);
+    for (found, column) in so.uses.list().iter().zip(use_at) {
         let wanted = Use {
             up: 0,
             slot: 0,
@@ -112,6 +112,6 @@ fn a_name_is_defined_and_read(rt: HostRuntime) -> Result<(), Fail> {
         };
         assert_eq!(rt; *found, wanted);
     }
-    assert_eq!(rt; so.bodies.len(), 1);
+    assert_eq!(rt; so.bodies.list().len(), 1);
     Ok(())
 }
