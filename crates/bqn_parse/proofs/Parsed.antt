@@ -1,5 +1,5 @@
 -- A walk over tokens, token by token.
-use Rattle.std.proofs.Common.{◌≡◌, ◌<◌, ◌≤◌, ◌+◌, ℕ, suc, zero, List, [], ◌∷◌, Result, Ok, Err, length, drop, get_or, drop-cons, add-one, map, reverse, refl, subst, sym, ap, ◌∙◌, arith, tt}
+use Rattle.std.proofs.Common.{◌≡◌, ◌<◌, ◌≤◌, ◌+◌, ℕ, suc, zero, List, [], ◌∷◌, Result, Ok, Err, length, drop, get_or, drop-cons, add-one, map, reverse, refl, subst, sym, ap, ◌∙◌, arith}
 use Rattle.std.proofs.Math.ListN.{drop_of_length-le}
 use Rattle.bqn_base.specs.declared.refusal.Refusal.{Refusal}
 use Rattle.bqn_base.specs.declared.refusal.Refusal.TheVariants as refusal
