@@ -4,10 +4,10 @@ ghost use Rattle.bqn_syntax.specs.Expressions.{assigned, changed, more, steps_of
 ghost use Rattle.bqn_syntax.specs.Plain.{Apply, Assign, Modify, Name, derived_of, none, part_of, pattern_of, some};
 ghost use Rattle.bqn_syntax.specs.Units.{Function, Arrow'};
 ghost use Rattle.bqn_syntax.specs.declared.tree.Arrow.TheVariants as arrows;
-ghost use Rattle.bqn_parse.specs.Leftward.{reading_shown, next_shown, steps_shown, left_of};
+ghost use Rattle.bqn_parse.specs.Leftward.{joined, reading_shown, next_shown, steps_shown, left_of};
 ghost use Rattle.bqn_parse.specs.Views.{backward};
 
-use crate::ends::pushed;
+use crate::ends::{pushed, with_room};
 use crate::named::named;
 use crate::reading::{Reading, read};
 use crate::unit::Unit;
@@ -187,12 +187,23 @@ pub fn next_step(left: Reading) -> Next
     }
 }
 
-/// All that is done with a value, from this on, or none where it is no value.
+/// So many steps may be done with a value at a guess: most of them take two units.
+fn room_for(first: &Next) -> usize {
+    match first {
+        Next::End | Next::Wrong => 0,
+        Next::Step(_, left) => match &left.next {
+            None => 1,
+            Some(_) => left.rest.len() / 2 + 2,
+        },
+    }
+}
+
+/// These steps, and then all that is done from this on, or none where it is no value.
 #[tactic(auto, using(crate::proofs::Leftward::step_laws))]
-pub fn steps(alloc: Global, first: Next) -> Result<Option<Row<Step>>, Memory>
-    ensures { IfOk result (λ all. option_map steps_shown all ≡ next_shown first) }
+fn steps_onto(done: Vec<Step>, first: Next) -> Result<Option<Row<Step>>, Memory>
+    ensures { IfOk result (λ all. option_map steps_shown all ≡ joined done.items (next_shown first)) }
 {
-    let mut steps = Vec::new(alloc);
+    let mut steps = done;
     let mut next = first;
     'steps: loop {
         match next {
@@ -204,4 +215,13 @@ pub fn steps(alloc: Global, first: Next) -> Result<Option<Row<Step>>, Memory>
             }
         }
     }
+}
+
+/// All that is done with a value, from this on, or none where it is no value.
+#[tactic(auto, using(crate::proofs::Leftward::step_laws))]
+pub fn steps(alloc: Global, first: Next) -> Result<Option<Row<Step>>, Memory>
+    ensures { IfOk result (λ all. option_map steps_shown all ≡ next_shown first) }
+{
+    let room = with_room(alloc, room_for(&first))?;
+    steps_onto(room, first)
 }
