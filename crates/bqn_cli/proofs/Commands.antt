@@ -22,13 +22,14 @@ use Rattle.bqn_syntax.specs.Text.{text_of, without_returns}
 use Rattle.bqn_syntax.specs.Tokens.{tokens_of_text, tokens_of_source}
 use Rattle.bqn_syntax.specs.Plain.{Stmts}
 use Rattle.bqn_syntax.specs.Parsing.{parsed}
+use Rattle.bqn_syntax.specs.Bodies.{Resolution, resolution}
 use Rattle.bqn_syntax.specs.Form.{form_of}
 use Rattle.bqn_syntax.specs.Evaluation.{State, Res, Gives as Value, Faults, Spends, M, then_do, answered, answer_of, output_of, wrote, call, known_value, stored, eval_part, eval_expr, eval_statements, evaluated}
 use Rattle.std.specs.Prelude.{ℤ}
 use Rattle.bqn_cli.specs.declared.halted.Halted.{Halted}
 use Rattle.bqn_cli.specs.declared.halted.Halted.TheVariants as halted
 use Rattle.bqn_cli.specs.Command.{Run}
-use Rattle.bqn_cli.specs.Answer.{Answer, FileAnswers, source_answer, tokens_answer, parsed_answer, form_answer, ended, refused, default_steps}
+use Rattle.bqn_cli.specs.Answer.{Answer, FileAnswers, source_answer, tokens_answer, parsed_answer, form_answer, scoped_answer, ended, refused, default_steps}
 use Rattle.bqn_cli.specs.Headline.{Whole, Prefix, FileFits, Meets}
 use Rattle.bqn_cli.specs.Writing.{Gives, fetched_answer, status_of}
 
@@ -139,8 +140,12 @@ form_answer-status : (form : Option (List Stmt)) → IsRunStatus (form_answer fo
 form_answer-status None = tt
 form_answer-status (Some form) = ended-status (evaluated form default_steps) (has_steps-statements form (record { written = []; left = 999999; vars = [] }))
 
+scoped_answer-status : (tokens : List Token) (stmts : Stmts) (answer : Result Resolution Refusal) → IsRunStatus (scoped_answer tokens stmts answer).status
+scoped_answer-status tokens stmts (Ok resolution) = form_answer-status (form_of tokens stmts)
+scoped_answer-status tokens stmts (Err r) = tt
+
 parsed_answer-status : (tokens : List Token) (answer : Result Stmts Refusal) → IsRunStatus (parsed_answer tokens answer).status
-parsed_answer-status tokens (Ok stmts) = form_answer-status (form_of tokens stmts)
+parsed_answer-status tokens (Ok stmts) = scoped_answer-status tokens stmts (resolution [] stmts)
 parsed_answer-status tokens (Err r) = tt
 
 tokens_answer-status : (answer : Result (List Token) Refusal) → IsRunStatus (tokens_answer answer).status

@@ -15,6 +15,7 @@ use Rattle.bqn_syntax.specs.Tree.{Stmt}
 use Rattle.bqn_syntax.specs.declared.tree.Tree.{Tree}
 use Rattle.bqn_syntax.specs.Plain.{Stmts, tree_of}
 use Rattle.bqn_syntax.specs.Parsing.{parsed}
+use Rattle.bqn_syntax.specs.Bodies.{Resolution, resolution}
 use Rattle.bqn_syntax.specs.Form.{form_of}
 use Rattle.bqn_syntax.specs.Evaluation.{State, Gives as Value, Faults, Spends}
 use Rattle.bqn_machine.specs.declared.code.Instr.{Instr}
@@ -23,11 +24,14 @@ use Rattle.bqn_machine.specs.declared.error.CompileError.TheVariants as compile
 use Rattle.bqn_machine.specs.Execution.{Run, executed}
 use Rattle.bqn_machine.specs.Compiling.{Compiles}
 use Rattle.bqn_machine.specs.Running.{EndsAs}
+use Rattle.bqn_scope.specs.declared.resolving.Resolved.{Resolved}
+use Rattle.bqn_scope.specs.declared.error.ScopeError.TheVariants as scope
+use Rattle.bqn_scope.specs.Resolving.{Resolves}
 use Rattle.std.specs.declared.vec.Vec.{Vec}
 use Rattle.std.specs.declared.alloc.Global.{Global}
 use Rattle.bqn_cli.specs.declared.halted.Halted.{Halted}
 use Rattle.bqn_cli.specs.declared.halted.Halted.TheVariants as halted
-use Rattle.bqn_cli.specs.Answer.{Answer, ended, faulted, refused, tokens_answer, parsed_answer, form_answer, default_steps}
+use Rattle.bqn_cli.specs.Answer.{Answer, ended, faulted, refused, tokens_answer, parsed_answer, tree_answer, scoped_answer, form_answer, default_steps}
 use Rattle.bqn_cli.specs.Writing.{Gives, GivesRun}
 
 -- code of a source misses no operand
@@ -91,7 +95,15 @@ module _ {K : Type 0} (written : K → Option (List ℕ)) (room faults : K → �
   pub source-memory : (form : Option (List Stmt)) (old : K) → Gives written room faults (form_answer form) old old (Err halted.Memory)
   source-memory form old = record { front = []; rest = (form_answer form).out; whole = refl; adds = adds-nothing written room faults old }
 
-  pub parsed-tree : (tokens : List Token) (answer : Result Stmts Refusal) (given : Tree) (old new : K) (result : Result Status Halted) → answer ≡ Ok (tree_of given) → Gives written room faults (form_answer (form_of tokens (tree_of given))) old new result → Gives written room faults (parsed_answer tokens answer) old new result
+  pub resolved-form : (tokens : List Token) (given : Tree) (resolved : Resolved) (old new : K) (result : Result Status Halted) → Resolves (resolution [] (tree_of given)) given (Ok resolved) → Gives written room faults (form_answer (form_of tokens (tree_of resolved.tree))) old new result → Gives written room faults (tree_answer tokens (tree_of given)) old new result
+  resolved-form tokens given resolved old new result r h =
+      subst (λ (a : Result Resolution Refusal). Gives written room faults (scoped_answer tokens (tree_of given) a) old new result) (sym r.1)
+      (subst (λ (t : Tree). Gives written room faults (form_answer (form_of tokens (tree_of t))) old new result) r.0 h)
+
+  pub resolved-refusal : (tokens : List Token) (given : Tree) (r : Refusal) (old new : K) (result : Result Status Halted) → Resolves (resolution [] (tree_of given)) given (Err (scope.Refused r)) → Gives written room faults (refused r) old new result → Gives written room faults (tree_answer tokens (tree_of given)) old new result
+  resolved-refusal tokens given r old new result e h = subst (λ (a : Result Resolution Refusal). Gives written room faults (scoped_answer tokens (tree_of given) a) old new result) (sym e) h
+
+  pub parsed-tree : (tokens : List Token) (answer : Result Stmts Refusal) (given : Tree) (old new : K) (result : Result Status Halted) → answer ≡ Ok (tree_of given) → Gives written room faults (tree_answer tokens (tree_of given)) old new result → Gives written room faults (parsed_answer tokens answer) old new result
   parsed-tree tokens answer given old new result e h = subst (λ (a : Result Stmts Refusal). Gives written room faults (parsed_answer tokens a) old new result) (sym e) h
 
   pub parsed-refusal : (tokens : List Token) (answer : Result Stmts Refusal) (r : Refusal) (old new : K) (result : Result Status Halted) → answer ≡ Err r → Gives written room faults (refused r) old new result → Gives written room faults (parsed_answer tokens answer) old new result
@@ -107,6 +119,8 @@ module _ {K : Type 0} (written : K → Option (List ℕ)) (room faults : K → �
   gives-nothing answer old = record { front = []; rest = answer.out; whole = refl; adds = adds-nothing written room faults old }
 
 pub ruleset token_laws = (source-tokens, source-refusal, gives-nothing)
+
+pub ruleset tree_laws = (resolved-form, resolved-refusal, gives-nothing)
 
 pub ruleset parsed_laws = (parsed-tree, parsed-refusal, gives-nothing)
 

@@ -12,6 +12,7 @@ use Rattle.bqn_syntax.specs.Tree.{Stmt}
 use Rattle.bqn_syntax.specs.Tokens.{tokens_of_source}
 use Rattle.bqn_syntax.specs.Plain.{Stmts}
 use Rattle.bqn_syntax.specs.Parsing.{parsed}
+use Rattle.bqn_syntax.specs.Bodies.{Resolution, resolution}
 use Rattle.bqn_syntax.specs.Form.{form_of}
 use Rattle.bqn_syntax.specs.Evaluation.{Res, Gives, Faults, Spends, evaluated}
 use Rattle.bqn_cli.specs.Command.{Command, Run, NoCommand}
@@ -42,10 +43,19 @@ abbrev pub form_answer : Option (List Stmt) → Answer
 form_answer None = refused NotYet
 form_answer (Some form) = ended (evaluated form default_steps)
 
--- the refusal of a token list, or what the form of its tree gives
+-- the refusal of a name, or what the form of a tree gives
+abbrev pub scoped_answer : List Token → Stmts → Result Resolution Refusal → Answer
+scoped_answer tokens stmts (Err refusal) = refused refusal
+scoped_answer tokens stmts (Ok resolution) = form_answer (form_of tokens stmts)
+
+-- no names are known before a source
+abbrev pub tree_answer : List Token → Stmts → Answer
+tree_answer tokens stmts = scoped_answer tokens stmts (resolution [] stmts)
+
+-- the refusal of a token list, or what its tree gives
 abbrev pub parsed_answer : List Token → Result Stmts Refusal → Answer
 parsed_answer tokens (Err refusal) = refused refusal
-parsed_answer tokens (Ok stmts) = form_answer (form_of tokens stmts)
+parsed_answer tokens (Ok stmts) = tree_answer tokens stmts
 
 -- the refusal of a source, or what its tokens give
 abbrev pub tokens_answer : Result (List Token) Refusal → Answer

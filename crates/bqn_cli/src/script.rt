@@ -6,7 +6,7 @@ ghost use Rattle.bqn_syntax.specs.Form.{form_of};
 ghost use Rattle.bqn_syntax.specs.Parsing.{parsed};
 ghost use Rattle.bqn_syntax.specs.Plain.{tree_of};
 ghost use Rattle.bqn_machine.specs.Execution.{executed};
-ghost use Rattle.bqn_cli.specs.Answer.{default_steps, faulted, form_answer, parsed_answer, refused, source_answer};
+ghost use Rattle.bqn_cli.specs.Answer.{default_steps, faulted, form_answer, parsed_answer, refused, source_answer, tree_answer};
 ghost use Rattle.bqn_cli.specs.Writing.{Gives, GivesRun};
 
 use crate::halted::Halted;
@@ -15,6 +15,7 @@ use bqn_base::{Fault, Refusal, Status};
 use bqn_io::{Failed, Sink};
 use bqn_machine::{CompileError, End, Instr, compile, run_code};
 use bqn_parse::{ParseError, parse};
+use bqn_scope::{Names, ScopeError, resolve};
 use bqn_syntax::{Token, Tree};
 use bqn_token::{TokenError, tokens};
 use std::alloc::Global;
@@ -74,9 +75,9 @@ fn run<K: Sink>(alloc: Global, code: &[Instr], out: &mut K) -> Result<Status, Ha
     }
 }
 
-/// Compiles and runs the tree of a token list.
+/// Compiles and runs the tree of a token list, whose names are resolved.
 #[tactic(auto, using(crate::proofs::Ended::source_laws))]
-fn run_tree<K: Sink>(
+fn run_form<K: Sink>(
     alloc: Global,
     tokens: &[Token],
     tree: &Tree,
@@ -91,6 +92,23 @@ fn run_tree<K: Sink>(
     }
 }
 
+/// Refuses the tree of a token list for a name in it, or runs it.
+#[tactic(auto, using(crate::proofs::Ended::tree_laws))]
+fn run_tree<K: Sink>(
+    alloc: Global,
+    tokens: &[Token],
+    tree: Tree,
+    out: &mut K,
+) -> Result<Status, Halted>
+    ensures { Gives K.written K.room K.faults (tree_answer tokens.now (tree_of tree)) out.old out.new result }
+{
+    match resolve(alloc, tree, &Names::new(alloc)) {
+        Ok(resolved) => run_form(alloc, tokens, &resolved.tree, out),
+        Err(ScopeError::Refused(refusal)) => refuse(alloc, refusal, out),
+        Err(ScopeError::Memory) => Err(Halted::Memory),
+    }
+}
+
 /// Refuses the tokens of a source, or runs them.
 #[tactic(auto, using(crate::proofs::Ended::parsed_laws))]
 fn run_tokens<K: Sink>(alloc: Global, tokens: &[Token], out: &mut K) -> Result<Status, Halted>
@@ -98,7 +116,7 @@ fn run_tokens<K: Sink>(alloc: Global, tokens: &[Token], out: &mut K) -> Result<S
     ensures { Gives K.written K.room K.faults (parsed_answer tokens.now (parsed tokens.now)) out.old out.new result }
 {
     match parse(alloc, tokens) {
-        Ok(tree) => run_tree(alloc, tokens, &tree, out),
+        Ok(tree) => run_tree(alloc, tokens, tree, out),
         Err(ParseError::Refused(refusal)) => refuse(alloc, refusal, out),
         Err(ParseError::Memory) => Err(Halted::Memory),
     }

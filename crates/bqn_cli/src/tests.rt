@@ -5,6 +5,7 @@ use std::alloc::{AllocError, Global};
 use std::test::Fail;
 
 mod grammar;
+mod scope;
 
 /// Words of a command line that are split at spaces.
 fn words_of(alloc: Global, line: &str) -> Result<Vec<String>, AllocError> {
@@ -30,6 +31,13 @@ fn ran(
     let mut output = MemorySink::new(alloc, 4096, failing.to_vec(alloc)?)?;
     let status = command(alloc, &words, &mut files, &mut input, &mut output);
     Ok((status, output.written().to_vec(alloc)?))
+}
+
+/// Whether the file `f` with this source is answered by this refusal.
+fn is_refused(rt: &HostRuntime, source: &str, refusal: &str) -> Result<bool, Fail> {
+    let line = format!(in rt.alloc(); "Refused: {refusal}\n")?;
+    let (_, bytes) = ran(rt, "run f", source.as_bytes(), &[])?;
+    Ok(bytes.as_slice() == line.as_bytes())
 }
 
 #[test]
@@ -66,9 +74,9 @@ fn scripts(rt: HostRuntime) -> Result<(), Fail> {
             "1\nError: Overflow\n",
             Status::Fault,
         ),
-        ("•Show a⋄a←1", not_yet, Status::Refused),
-        ("a←1⋄a←2", not_yet, Status::Refused),
-        ("a←a", not_yet, Status::Refused),
+        ("•Show a⋄a←1", "Refused: Early 1:7\n", Status::Refused),
+        ("a←1⋄a←2", "Refused: Redefined 1:5\n", Status::Refused),
+        ("a←a", "Refused: Early 1:3\n", Status::Refused),
         ("F←+", not_yet, Status::Refused),
         ("a←b←1", not_yet, Status::Refused),
         ("1+(a←2)", not_yet, Status::Refused),

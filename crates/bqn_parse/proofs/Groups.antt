@@ -1,5 +1,5 @@
 -- Groups of joined elements.
-use Rattle.std.proofs.Common.{◌≡◌, ◌≤◌, List, [], ◌∷◌, ◌++◌, length, Bool, Option, Some, None, refl, sym, ap, ◌∙◌, arith}
+use Rattle.std.proofs.Common.{◌≡◌, ◌≤◌, List, [], ◌∷◌, ◌++◌, length, reverse, Bool, Option, Some, None, refl, sym, ap, ◌∙◌, arith}
 use Rattle.std.specs.Option.{option_map, option_and_then}
 use Rattle.bqn_syntax.specs.declared.tree.Arrow.{Arrow}
 use Rattle.bqn_syntax.specs.Items.{Element, Item, Standing, Drawn, Joining, Selecting, Wrong, each, element_pattern, group_pattern, onto_first, groups, only_group, piece_pattern}
@@ -150,12 +150,12 @@ ends : (literals : Bool) (xs : List Element) (last : Option Element) → piece_p
 ends literals xs None = wanted-end literals xs
 ends literals xs (Some x) = piece-end literals xs x
 
-pub put-end : (literals : Bool) (so : Strung) (items : List CodeItem) → length items ≡ 0 → spelt literals so (items_of items) ≡ ended literals so.elements so.last
+pub put-end : (literals : Bool) (so : Strung) (left : List CodeItem) → length left ≡ 0 → spelt literals so (items_of (reverse left)) ≡ ended literals so.elements so.last
 unfolding spelt
 put-end literals so [] none = ends literals so.elements so.last
-put-end literals so (item ∷ items) none = absurd (omega arith)
+put-end literals so (item ∷ left) none = absurd (omega arith)
 
-pub ruleset piece_laws = (put-more, put-stuck, put-start)
+pub ruleset piece_laws = (put-more, put-stuck, put-start, put-end)
 
 -- several elements
 pub group-several : (literals : Bool) (xs : List Element) → 2 ≤ length xs → group_pattern literals xs ≡ option_map (λ (qs : List Pattern). StrandPattern (patterns qs)) (each (element_pattern literals) xs)

@@ -1,20 +1,15 @@
 -- Units that are read leftward.
-use Rattle.std.proofs.Common.{◌≡◌, ◌+◌, List, [], ◌∷◌, ◌++◌, length, Option, Some, None, refl, sym, ap, ◌∙◌}
+use Rattle.std.proofs.Common.{◌≡◌, ◌+◌, List, [], ◌∷◌, ◌++◌, length, Option, Some, None, refl, ap, ◌∙◌}
 use Rattle.bqn_syntax.specs.declared.tree.Step.{Step}
-use Rattle.bqn_syntax.specs.Expressions.{more, steps_of}
-use Rattle.bqn_syntax.specs.Plain.{Step as PlainStep, Steps, no_steps, and_steps, step_of}
+use Rattle.bqn_syntax.specs.Expressions.{more}
+use Rattle.bqn_syntax.specs.Plain.{Steps, no_steps, and_steps, step_of}
 use Rattle.bqn_syntax.specs.Units.{Unit'}
-use Rattle.bqn_parse.specs.declared.reading.Reading.{Reading}
 use Rattle.bqn_parse.specs.declared.steps.Next.{Next}
 use Rattle.bqn_parse.specs.declared.steps.Next.TheVariants as next
-use Rattle.bqn_parse.specs.Leftward.{reading_shown, steps_shown, onto_steps, joined, left_of}
+use Rattle.bqn_parse.specs.Leftward.{steps_shown, onto_steps, joined, left_of}
 
--- a step of the program before the units that are left
-pub step-before : (s : Step) (plain : PlainStep) (us left : List Unit') → step_of s ≡ plain → left ≡ us → more plain (steps_of us) ≡ more (step_of s) (steps_of left)
-step-before s plain us left e same = ap (λ (t : PlainStep). more t (steps_of us)) (sym e) ∙ ap (λ (vs : List Unit'). more (step_of s) (steps_of vs)) (sym same)
-
-pub left_of-step : (n : Next) (s : Step) (left : Reading) → n ≡ next.Step s left → left_of n ≡ length (reading_shown left) + 1
-left_of-step n s left e = ap left_of e
+pub left_of-step : (n : Next) (s : Step) (us : List Unit') → n ≡ next.Step s → left_of n us ≡ length us + 1
+left_of-step n s us e = ap (λ (m : Next). left_of m us) e
 
 onto_steps-snoc : (all : List Step) (s : Step) (others : Steps) → onto_steps (all ++ s ∷ []) others ≡ onto_steps all (and_steps (step_of s) others)
 onto_steps-snoc [] s others = refl

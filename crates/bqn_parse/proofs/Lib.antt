@@ -10,7 +10,7 @@ pub mod Parsed
 pub mod Stepping
 pub mod Walking
 pub mod Backward
-pub mod Binding
+pub mod Fused
 pub mod Expressions
 pub mod Leftward
 pub mod Singles

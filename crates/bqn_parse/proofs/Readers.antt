@@ -1,8 +1,8 @@
--- A piece, item by item.
-use Rattle.std.proofs.Common.{◌≡◌, ◌<◌, List, [], ◌∷◌, ◌++◌, length, Option, Some, None, sym, ap, arith}
+-- Several elements that are joined.
+use Rattle.std.proofs.Common.{◌≡◌, ◌<◌, List, [], ◌∷◌, ◌++◌, length, sym, ap, arith}
 use Rattle.std.proofs.lemmas.List.{map-append}
-use Rattle.std.specs.Option.{option_map, option_and_then}
-use Rattle.bqn_syntax.specs.Items.{Element as Piece, Item, Terms, Operand, Target, each, element_part, element_pattern, plain_term, aimed_term, put, puts}
+use Rattle.std.specs.Option.{option_map}
+use Rattle.bqn_syntax.specs.Items.{Element as Piece, Operand, Target, each, element_part, element_pattern, plain_term, aimed_term}
 use Rattle.bqn_syntax.specs.Plain.{Part, Pattern, Strand, StrandPattern, parts, patterns}
 use Rattle.bqn_parse.specs.declared.item.Element.{Element}
 use Rattle.bqn_parse.specs.Strands.{elements_of}
@@ -18,11 +18,3 @@ aimed-strand [] x some = absurd (omega arith)
 aimed-strand (y ∷ ys) x some = ap (λ (xs : List Piece). option_map (λ (qs : List Pattern). Target (StrandPattern (patterns qs))) (each (element_pattern false) (element_of y ∷ xs))) (sym (map-append element_of ys (x ∷ [])))
 
 pub ruleset strand_laws = (plain-strand, aimed-strand)
-
-pub puts-more : (so next : Terms) (item : Item) (items : List Item) → Some next ≡ put so item → puts so (item ∷ items) ≡ puts next items
-puts-more so next item items e = ap (λ (r : Option Terms). option_and_then (λ (t : Terms). puts t items) r) (sym e)
-
-pub puts-stuck : (so : Terms) (item : Item) (items : List Item) → None ≡ put so item → puts so (item ∷ items) ≡ None
-puts-stuck so item items e = ap (λ (r : Option Terms). option_and_then (λ (t : Terms). puts t items) r) (sym e)
-
-pub ruleset puts_laws = (puts-more, puts-stuck)

@@ -22,15 +22,16 @@ reading_shown r = ahead r.next (backward r.rest.items)
 abbrev pub steps_shown : List CodeStep → Steps
 steps_shown all = steps (map step_of all)
 
-abbrev pub next_shown : Next → Option Steps
-next_shown next.End = Some no_steps
-next_shown next.Wrong = None
-next_shown (next.Step s left) = more (step_of s) (steps_of (reading_shown left))
+-- where these units are left
+abbrev pub next_shown : Next → List Unit' → Option Steps
+next_shown next.End us = Some no_steps
+next_shown next.Wrong us = None
+next_shown (next.Step s) us = more (step_of s) (steps_of us)
 
 -- so many units are left, and a step before them
-abbrev pub left_of : Next → ℕ
-left_of (next.Step s left) = length (reading_shown left) + 1
-left_of _ = 0
+abbrev pub left_of : Next → List Unit' → ℕ
+left_of (next.Step s) us = length us + 1
+left_of _ us = 0
 
 -- these steps, and then the others
 abbrev pub onto_steps : List CodeStep → Steps → Steps

@@ -8,19 +8,22 @@ use Rattle.bqn_parse.specs.declared.pattern.Joined.{Joined}
 use Rattle.bqn_parse.specs.declared.terms.Reader.{Reader}
 use Rattle.bqn_parse.specs.declared.terms.Reading.{Reading}
 use Rattle.bqn_parse.specs.declared.terms.Reading.TheVariants as reading
-use Rattle.bqn_parse.specs.Views.{element_of, terms_shown}
+use Rattle.bqn_parse.specs.Fused.{Piece, piece}
+use Rattle.bqn_parse.specs.Grouping.{grouping_shown}
+use Rattle.bqn_parse.specs.Views.{element_of}
 
 abbrev pub elements_of : List Element → List items.Element
 elements_of all = map element_of all
 
-abbrev pub reading_of : Reading → items.Reading
-reading_of reading.Between = items.Between
-reading_of (reading.At joined x) = items.At (elements_of joined.items) (element_of x)
-reading_of (reading.Joined joined) = items.Joined (elements_of joined.items)
-reading_of (reading.Selected joined x) = items.Selected (elements_of joined.items) (part_of x)
+-- what is being read, behind these elements
+abbrev pub reading_of : List items.Element → Reading → items.Reading
+reading_of joined reading.Between = items.Between
+reading_of joined (reading.At x) = items.At joined (element_of x)
+reading_of joined reading.Joined = items.Joined joined
+reading_of joined (reading.Selected x) = items.Selected joined (part_of x)
 
-abbrev pub reader_of : Reader → items.Terms
-reader_of reader = items.reads (terms_shown reader.terms.items) (reading_of reader.reading)
+abbrev pub reader_of : Reader → Piece
+reader_of reader = piece (grouping_shown reader.grouping) (reading_of (elements_of reader.joined.items) reader.reading)
 
 -- elements that are joined to what follows, and the element behind them
 pub record Strung : Type 0 where

@@ -1,5 +1,5 @@
 -- What items, terms and units stand for.
-use Rattle.std.specs.Prelude.{◌≡◌, List, [], ◌∷◌, map, reverse, Option, Some, None, Result, Ok, Err}
+use Rattle.std.specs.Prelude.{◌≡◌, Bool, true, false, List, [], ◌∷◌, map, reverse, Option, Some, None, Result, Ok, Err}
 use Rattle.std.specs.Option.{option_map}
 use Rattle.bqn_base.specs.declared.refusal.Refusal.{Refusal}
 use Rattle.bqn_syntax.specs.declared.token.Token.{Token}
@@ -13,8 +13,6 @@ use Rattle.bqn_parse.specs.declared.item.Element.{Element}
 use Rattle.bqn_parse.specs.declared.item.Element.TheVariants as element
 use Rattle.bqn_parse.specs.declared.item.Item.{Item}
 use Rattle.bqn_parse.specs.declared.item.Item.TheVariants as item
-use Rattle.bqn_parse.specs.declared.term.Term.{Term}
-use Rattle.bqn_parse.specs.declared.term.Term.TheVariants as term
 use Rattle.bqn_parse.specs.declared.unit.Unit.{Unit as CodeUnit}
 use Rattle.bqn_parse.specs.declared.unit.Unit.TheVariants as unit
 use Rattle.bqn_parse.specs.declared.error.ParseError.{ParseError}
@@ -34,14 +32,6 @@ item_of item.Wrong = items.Wrong
 abbrev pub items_of : List Item → List items.Item
 items_of all = map item_of all
 
-abbrev pub term_of : Term → items.Term
-term_of (term.Operand x) = items.Operand (part_of x)
-term_of (term.Target q) = items.Target (pattern_of q)
-term_of (term.Draw a) = items.Draw a
-
-abbrev pub terms_shown : List Term → List items.Term
-terms_shown all = map term_of all
-
 abbrev pub unit_shown : CodeUnit → units.Unit'
 unit_shown (unit.Subject x) = units.Subject (part_of x)
 unit_shown (unit.Function f) = units.Function (derived_of f)
@@ -58,6 +48,11 @@ backward_onto (u ∷ us) so = backward_onto us (unit_shown u ∷ so)
 -- the units, the last one first
 abbrev pub backward : List CodeUnit → List units.Unit'
 backward us = backward_onto us []
+
+-- what is shown now, if there is such a form
+abbrev pub when : {A : Type 0} → Bool → A → Option A
+when true shown = Some shown
+when false shown = None
 
 -- the tree that is given is this, or the refusal is; want of memory says nothing
 abbrev pub Gives : Result Stmts Refusal → Result Tree ParseError → Type 0

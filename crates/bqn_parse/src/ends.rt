@@ -1,6 +1,7 @@
-ghost use Rattle.std.specs.Prelude.{◌≡◌, ◌++◌, [], ◌∷◌, IfOk};
+ghost use Rattle.std.specs.Prelude.{◌≡◌, ◌++◌, [], ◌∷◌, IfOk, OnOk};
 
 use bqn_base::Memory;
+use std::alloc::Global;
 
 /// The list with one more element at its end.
 pub fn pushed<T: Drop>(list: Vec<T>, last: T) -> Result<Vec<T>, Memory>
@@ -9,6 +10,26 @@ pub fn pushed<T: Drop>(list: Vec<T>, last: T) -> Result<Vec<T>, Memory>
     let mut list = list;
     match list.push(last) {
         Ok(()) => Ok(list),
+        Err(_) => Err(Memory),
+    }
+}
+
+/// One more at the end.
+pub fn push<T: Drop>(all: &mut Vec<T>, one: T) -> Result<(), Memory>
+    ensures { OnOk result (all.new.items ≡ all.old.items ++ one ∷ []) }
+{
+    match all.push(one) {
+        Ok(()) => Ok(()),
+        Err(_) => Err(Memory),
+    }
+}
+
+/// An empty list with room for so many elements.
+pub fn with_room<T: Drop>(alloc: Global, room: usize) -> Result<Vec<T>, Memory>
+    ensures { IfOk result (λ all. all.items ≡ []) }
+{
+    match Vec::with_capacity(alloc, room) {
+        Ok(all) => Ok(all),
         Err(_) => Err(Memory),
     }
 }

@@ -1,8 +1,9 @@
 ghost use Rattle.std.specs.Prelude.{◌≡◌, IfOk, ◌∷◌};
 ghost use Rattle.std.specs.Option.{option_map};
 ghost use Rattle.bqn_syntax.specs.Expressions as expressions;
-ghost use Rattle.bqn_syntax.specs.Plain.{Eval, Export, expr_of, maybe_part, part_of, stmt_of};
-ghost use Rattle.bqn_syntax.specs.Units.{Absent, Alone, Arrow'};
+ghost use Rattle.bqn_syntax.specs.Expressions.{steps_of};
+ghost use Rattle.bqn_syntax.specs.Plain.{Eval, Export, derived_of, expr_of, maybe_part, part_of, some, stmt_of};
+ghost use Rattle.bqn_syntax.specs.Units.{Absent, Alone, Arrow', Function};
 ghost use Rattle.bqn_syntax.specs.declared.tree.Arrow.TheVariants as arrows;
 ghost use Rattle.bqn_parse.specs.Leftward.{is_end, is_export, next_shown, reading_shown};
 ghost use Rattle.bqn_parse.specs.Views.{backward, unit_shown};
@@ -15,18 +16,60 @@ use crate::targets::targets;
 use crate::train::train;
 use crate::unit::Unit;
 use bqn_base::{Memory, Row};
-use bqn_syntax::{Arrow, Expr, Part, Stmt};
+use bqn_syntax::{Arrow, Derived, Expr, Part, Stmt};
 use std::alloc::Global;
 
 /// The value with this last part, or none.
 #[tactic(auto, using(bqn_syntax::specs::Levels::levels))]
-fn value(alloc: Global, last: Option<Part>, first: Next) -> Result<Option<Expr>, Memory>
-    ensures { IfOk result (λ e. option_map expr_of e ≡ expressions.value (maybe_part (option_map part_of last)) (next_shown first)) }
+fn value(
+    alloc: Global,
+    last: Option<Part>,
+    first: Next,
+    left: &mut Reading,
+) -> Result<Option<Expr>, Memory>
+    ensures { IfOk result (λ e. option_map expr_of e ≡ expressions.value (maybe_part (option_map part_of last)) (next_shown first (reading_shown left.old))) }
 {
-    match steps(alloc, first)? {
+    match steps(alloc, first, left)? {
         None => Ok(None),
         Some(steps) => Ok(Some(Expr::Value { last, steps })),
     }
+}
+
+/// The value with this last part, by what stands left of it, or none.
+fn ends_in_part(alloc: Global, last: Part, left: Reading) -> Result<Option<Expr>, Memory>
+    ensures { IfOk result (λ e. option_map expr_of e ≡ expressions.value (some (part_of last)) (steps_of (reading_shown left))) }
+{
+    let mut left = left;
+    let first = next_step(&mut left);
+    value(alloc, Some(last), first, &mut left)
+}
+
+/// The value with this last part, to which a function is applied, or none.
+fn ends_in_call(
+    alloc: Global,
+    last: Part,
+    function: Derived,
+    left: Reading,
+) -> Result<Option<Expr>, Memory>
+    ensures { IfOk result (λ e. option_map expr_of e ≡ expressions.value (some (part_of last)) (steps_of (Function (derived_of function) ∷ reading_shown left))) }
+{
+    let mut left = left;
+    let first = called(function, &mut left);
+    value(alloc, Some(last), first, &mut left)
+}
+
+/// The value whose last step changes a name by a function, or none.
+#[tactic(auto, using(crate::proofs::Expressions::expression_laws))]
+fn ends_in_change_by(
+    alloc: Global,
+    function: Derived,
+    left: Reading,
+) -> Result<Option<Expr>, Memory>
+    ensures { IfOk result (λ e. option_map expr_of e ≡ expressions.expression (Arrow' arrows.Change ∷ Function (derived_of function) ∷ reading_shown left)) }
+{
+    let mut left = left;
+    let first = change(function, &mut left);
+    value(alloc, None, first, &mut left)
 }
 
 /// An expression that ends in `·`.
@@ -35,7 +78,7 @@ fn ends_in_skip(alloc: Global, skip: Part, left: Reading) -> Result<Option<Expr>
 {
     let Reading { next, rest } = left;
     match next {
-        Some(Unit::Function(function)) => value(alloc, Some(skip), called(function, read(rest))),
+        Some(Unit::Function(function)) => ends_in_call(alloc, skip, function, read(rest)),
         Some(Unit::Subject(_))
         | Some(Unit::Absent(_))
         | Some(Unit::Alone(_))
@@ -52,7 +95,7 @@ fn ends_in_change(alloc: Global, left: Reading) -> Result<Option<Expr>, Memory>
 {
     let Reading { next, rest } = left;
     match next {
-        Some(Unit::Function(function)) => value(alloc, None, change(function, read(rest))),
+        Some(Unit::Function(function)) => ends_in_change_by(alloc, function, read(rest)),
         Some(Unit::Subject(_))
         | Some(Unit::Absent(_))
         | Some(Unit::Alone(_))
@@ -90,7 +133,7 @@ fn expression_from(alloc: Global, left: Reading) -> Result<Option<Expr>, Memory>
 {
     let Reading { next, rest } = left;
     match next {
-        Some(Unit::Subject(part)) => value(alloc, Some(part), next_step(read(rest))),
+        Some(Unit::Subject(part)) => ends_in_part(alloc, part, read(rest)),
         Some(Unit::Absent(skip)) => ends_in_skip(alloc, skip, read(rest)),
         Some(Unit::Arrow(arrow)) => ends_in_arrow(alloc, arrow, read(rest)),
         Some(Unit::Function(function)) => train(alloc, function, read(rest)),

@@ -10,10 +10,9 @@ use crate::error::ParseError;
 use crate::level::Level;
 use crate::pattern::pattern;
 use crate::pieces::{piece_expression, piece_predicate, piece_statement};
-use bqn_base::{Place, Refusal, Row};
+use bqn_base::{Place, Refusal};
 use bqn_syntax::{Inside, Token};
 use std::alloc::Global;
-use std::mem;
 
 /// The place of a piece's first token, or else this one.
 #[tactic(auto, using(crate::proofs::Walking::place_laws))]
@@ -45,10 +44,9 @@ fn judge_statement(
 ) -> Result<(), ParseError>
     ensures { Moves (parsing.well place parsing.and_statement (expressions.piece_statement (level_shown tokens.now level.old).items) (level_shown tokens.now level.old)) (level_shown tokens.now level.new) result }
 {
-    let items = mem::replace(&mut level.items, Vec::new(alloc));
-    match piece_statement(alloc, Row::new(items))? {
+    match piece_statement(alloc, &mut level.items)? {
         None => Err(formless(tokens, place, level)),
-        Some(s) => level.and_statement(alloc, s),
+        Some(s) => level.and_statement(s),
     }
 }
 
@@ -61,10 +59,9 @@ fn judge_predicate(
 ) -> Result<(), ParseError>
     ensures { Moves (parsing.well place parsing.and_statement (expressions.piece_predicate (level_shown tokens.now level.old).items) (level_shown tokens.now level.old)) (level_shown tokens.now level.new) result }
 {
-    let items = mem::replace(&mut level.items, Vec::new(alloc));
-    match piece_predicate(alloc, Row::new(items))? {
+    match piece_predicate(alloc, &mut level.items)? {
         None => Err(formless(tokens, place, level)),
-        Some(s) => level.and_statement(alloc, s),
+        Some(s) => level.and_statement(s),
     }
 }
 
@@ -77,10 +74,9 @@ fn judge_expression(
 ) -> Result<(), ParseError>
     ensures { Moves (parsing.well place parsing.and_expression (expressions.piece_expression (level_shown tokens.now level.old).items) (level_shown tokens.now level.old)) (level_shown tokens.now level.new) result }
 {
-    let items = mem::replace(&mut level.items, Vec::new(alloc));
-    match piece_expression(alloc, Row::new(items))? {
+    match piece_expression(alloc, &mut level.items)? {
         None => Err(formless(tokens, place, level)),
-        Some(e) => level.and_expression(alloc, e),
+        Some(e) => level.and_expression(e),
     }
 }
 
@@ -94,10 +90,9 @@ fn judge_target(
 ) -> Result<(), ParseError>
     ensures { Moves (parsing.well place parsing.and_target (items.piece_pattern literals (level_shown tokens.now level.old).items) (level_shown tokens.now level.old)) (level_shown tokens.now level.new) result }
 {
-    let items = mem::replace(&mut level.items, Vec::new(alloc));
-    match pattern(alloc, literals, Row::new(items))? {
+    match pattern(alloc, literals, &mut level.items)? {
         None => Err(formless(tokens, place, level)),
-        Some(q) => level.and_target(alloc, q),
+        Some(q) => level.and_target(q),
     }
 }
 

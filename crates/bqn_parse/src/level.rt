@@ -76,44 +76,44 @@ impl Level {
 
     /// The piece that was read is this expression, and the level waits for the next one.
     #[tactic(auto, using(crate::proofs::Walking::append_laws))]
-    pub fn and_expression(&mut self, alloc: Global, e: Expr) -> Result<(), ParseError>
+    pub fn and_expression(&mut self, e: Expr) -> Result<(), ParseError>
         ensures { (tokens : List Token) → Moves (Ok (parsing.and_expression (expr_of e) (level_shown tokens self.old))) (level_shown tokens self.new) result }
     {
         self.expressions.push(e)?;
         self.first = None;
-        self.items = Vec::new(alloc);
+        self.items.clear();
         Ok(())
     }
 
     /// The piece that was read is this pattern.
     #[tactic(auto, using(crate::proofs::Walking::append_laws))]
-    pub fn and_target(&mut self, alloc: Global, q: Pattern) -> Result<(), ParseError>
+    pub fn and_target(&mut self, q: Pattern) -> Result<(), ParseError>
         ensures { (tokens : List Token) → Moves (Ok (parsing.and_target (pattern_of q) (level_shown tokens self.old))) (level_shown tokens self.new) result }
     {
         self.targets.push(q)?;
         self.first = None;
-        self.items = Vec::new(alloc);
+        self.items.clear();
         Ok(())
     }
 
     /// The piece that was read is this statement.
     #[tactic(auto, using(crate::proofs::Walking::append_laws))]
-    pub fn and_statement(&mut self, alloc: Global, s: Stmt) -> Result<(), ParseError>
+    pub fn and_statement(&mut self, s: Stmt) -> Result<(), ParseError>
         ensures { (tokens : List Token) → Moves (Ok (parsing.and_statement (stmt_of s) (level_shown tokens self.old))) (level_shown tokens self.new) result }
     {
         self.statements.push(s)?;
         self.first = None;
-        self.items = Vec::new(alloc);
+        self.items.clear();
         Ok(())
     }
 
     /// The piece that was read is this header.
-    pub fn and_header(&mut self, alloc: Global, h: Header)
+    pub fn and_header(&mut self, h: Header)
         ensures { (tokens : List Token) → level_shown tokens self.new ≡ parsing.and_header (header_of h) (level_shown tokens self.old) }
     {
         self.header = Some(h);
         self.first = None;
-        self.items = Vec::new(alloc);
+        self.items.clear();
     }
 
     /// Whether the first nonempty piece of a body is being read.
@@ -131,7 +131,7 @@ impl Level {
         let header = self.header.take();
         let statements = mem::replace(&mut self.statements, Vec::new(alloc));
         self.first = None;
-        self.items = Vec::new(alloc);
+        self.items.clear();
         let body = BodyTree {
             header,
             statements: Row::new(statements),

@@ -21,7 +21,6 @@ mod steps;
 mod strand;
 mod tags;
 mod targets;
-mod term;
 mod terms;
 mod train;
 mod unit;

@@ -1,15 +1,17 @@
-ghost use Rattle.std.specs.Prelude.{◌≡◌, IfOk};
+ghost use Rattle.std.specs.Prelude.{◌≡◌, IfOk, reverse};
 ghost use Rattle.std.specs.Option.{option_map};
 ghost use Rattle.bqn_syntax.specs.Items.{piece_pattern, group_pattern};
 ghost use Rattle.bqn_syntax.specs.Plain.{pattern_of};
-ghost use Rattle.bqn_parse.specs.Strands.{elements_of, ended, one_more, strung_of};
-ghost use Rattle.bqn_parse.specs.Views.{element_of, item_of, items_of};
+ghost use Rattle.bqn_parse.specs.Strands.{elements_of, ended, one_element, one_joiner, one_more, spelt, strung_of};
+ghost use Rattle.bqn_parse.specs.Views.{element_of, item_of, items_of, when};
 
+use crate::ends::push;
 use crate::item::{Element, Item};
-use crate::strand::{element_pattern, element_patterns, push};
-use bqn_base::{Memory, Row};
+use crate::strand::{element_pattern, element_patterns};
+use bqn_base::Memory;
 use bqn_syntax::Pattern;
 use std::alloc::Global;
+use std::mem;
 
 /// Elements that are joined to what follows, and the element behind them.
 #[derive(Drop)]
@@ -37,62 +39,90 @@ fn group(alloc: Global, literals: bool, elements: Vec<Element>) -> Result<Option
     }
 }
 
-/// One more item: elements and joiners alternate.
-fn put(row: Joined, item: Item) -> Result<Option<Joined>, Memory>
-    ensures { IfOk result (λ next. option_map strung_of next ≡ one_more (strung_of row) (item_of item)) }
+/// An element, where nothing or a joiner stands before.
+fn stand(row: &mut Joined, element: Element) -> bool
+    ensures { when result (strung_of row.new) ≡ one_element (elements_of row.old.elements.items) (option_map element_of row.old.last) (element_of element) }
 {
-    let Joined { mut elements, last } = row;
+    if row.last.is_some() {
+        return false;
+    }
+    row.last = Some(element);
+    true
+}
+
+/// A joiner, where an element stands before.
+#[tactic(auto, using(crate::proofs::Walking::append_laws))]
+fn join(row: &mut Joined) -> Result<bool, Memory>
+    ensures { IfOk result (λ fine. when fine (strung_of row.new) ≡ one_joiner (elements_of row.old.elements.items) (option_map element_of row.old.last)) }
+{
+    match row.last.take() {
+        None => Ok(false),
+        Some(element) => {
+            push(&mut row.elements, element)?;
+            Ok(true)
+        }
+    }
+}
+
+/// One more item: elements and joiners alternate.
+fn put(row: &mut Joined, item: Item) -> Result<bool, Memory>
+    ensures { IfOk result (λ fine. when fine (strung_of row.new) ≡ one_more (strung_of row.old) (item_of item)) }
+{
     match item {
-        Item::Standing(element) => match last {
-            None => Ok(Some(Joined {
-                elements,
-                last: Some(element),
-            })),
-            Some(_) => Ok(None),
-        },
-        Item::Joining => match last {
-            None => Ok(None),
-            Some(element) => {
-                push(&mut elements, element)?;
-                Ok(Some(Joined {
-                    elements,
-                    last: None,
-                }))
-            }
-        },
-        Item::Drawn(_) | Item::Selecting | Item::Wrong => Ok(None),
+        Item::Standing(element) => Ok(stand(row, element)),
+        Item::Joining => join(row),
+        Item::Drawn(_) | Item::Selecting | Item::Wrong => Ok(false),
     }
 }
 
 /// The pattern of a piece that ends here.
-fn finished(alloc: Global, literals: bool, row: Joined) -> Result<Option<Pattern>, Memory>
-    ensures { IfOk result (λ q. option_map pattern_of q ≡ ended literals (elements_of row.elements.items) (option_map element_of row.last)) }
+fn finished(alloc: Global, literals: bool, row: &mut Joined) -> Result<Option<Pattern>, Memory>
+    ensures { IfOk result (λ q. option_map pattern_of q ≡ ended literals (elements_of row.old.elements.items) (option_map element_of row.old.last)) }
 {
-    let Joined { mut elements, last } = row;
-    match last {
+    match row.last.take() {
         None => Ok(None),
         Some(element) => {
-            push(&mut elements, element)?;
+            push(&mut row.elements, element)?;
+            let elements = mem::replace(&mut row.elements, Vec::new(alloc));
             group(alloc, literals, elements)
         }
     }
 }
 
-/// The pattern that a piece is, whose leaves may be literals where they are allowed, or none.
-#[tactic(auto, using(crate::proofs::Groups::piece_laws))]
-pub fn pattern(alloc: Global, literals: bool, items: Row<Item>) -> Result<Option<Pattern>, Memory>
-    ensures { IfOk result (λ q. option_map pattern_of q ≡ piece_pattern literals (items_of items)) }
+/// The items that are left, the first of them last, and then the end of the piece.
+#[tactic(auto, using(crate::proofs::Groups::piece_laws, crate::proofs::Fused::turn_laws))]
+fn read_all(
+    alloc: Global,
+    literals: bool,
+    row: &mut Joined,
+    items: &mut Vec<Item>,
+) -> Result<Option<Pattern>, Memory>
+    ensures { IfOk result (λ q. option_map pattern_of q ≡ spelt literals (strung_of row.old) (items_of (reverse items.old.items))) }
+{
+    'items: while let Some(item) = items.pop() {
+        match put(row, item) {
+            Ok(true) => {}
+            Ok(false) => return Ok(None),
+            Err(error) => return Err(error),
+        }
+    }
+    finished(alloc, literals, row)
+}
+
+/// The pattern that a piece is, whose leaves may be literals where they are allowed, or none. The
+/// items are used up.
+#[tactic(auto, using(crate::proofs::Groups::piece_laws, crate::proofs::Fused::turn_laws))]
+pub fn pattern(
+    alloc: Global,
+    literals: bool,
+    items: &mut Vec<Item>,
+) -> Result<Option<Pattern>, Memory>
+    ensures { IfOk result (λ q. option_map pattern_of q ≡ piece_pattern literals (items_of items.old.items)) }
 {
     let mut row = Joined {
         elements: Vec::new(alloc),
         last: None,
     };
-    'items: for item in items.into_vec() {
-        match put(row, item) {
-            Ok(Some(next)) => row = next,
-            Ok(None) => return Ok(None),
-            Err(error) => return Err(error),
-        }
-    }
-    finished(alloc, literals, row)
+    items.reverse();
+    read_all(alloc, literals, &mut row, items)
 }

@@ -2,30 +2,18 @@ ghost use Rattle.std.specs.Prelude.{◌≡◌, IfOk};
 ghost use Rattle.std.specs.Option.{option_map};
 ghost use Rattle.bqn_syntax.specs.Expressions as expressions;
 ghost use Rattle.bqn_syntax.specs.Plain.{expr_of, stmt_of};
-ghost use Rattle.bqn_parse.specs.Views.{backward, items_of};
+ghost use Rattle.bqn_parse.specs.Views.{items_of};
 
 use crate::expression::{expression, statement};
 use crate::item::Item;
-use crate::terms::terms;
-use crate::unit::Unit;
-use crate::units::units;
-use bqn_base::{Memory, Row};
+use crate::terms::units_in;
+use bqn_base::Memory;
 use bqn_syntax::{Expr, Stmt};
 use std::alloc::Global;
 
-/// The units of a piece in order, or none where its items have no such form.
-fn units_in(alloc: Global, items: Row<Item>) -> Result<Option<Row<Unit>>, Memory>
-    ensures { IfOk result (λ units. option_map backward units ≡ expressions.units_in (items_of items)) }
-{
-    match terms(alloc, items)? {
-        Some(terms) => units(alloc, terms),
-        None => Ok(None),
-    }
-}
-
 /// The expression that a piece is, or none.
-pub fn piece_expression(alloc: Global, items: Row<Item>) -> Result<Option<Expr>, Memory>
-    ensures { IfOk result (λ e. option_map expr_of e ≡ expressions.piece_expression (items_of items)) }
+pub fn piece_expression(alloc: Global, items: &mut Vec<Item>) -> Result<Option<Expr>, Memory>
+    ensures { IfOk result (λ e. option_map expr_of e ≡ expressions.piece_expression (items_of items.old.items)) }
 {
     match units_in(alloc, items)? {
         Some(units) => expression(alloc, units),
@@ -34,8 +22,8 @@ pub fn piece_expression(alloc: Global, items: Row<Item>) -> Result<Option<Expr>,
 }
 
 /// The statement that a piece is, or none.
-pub fn piece_statement(alloc: Global, items: Row<Item>) -> Result<Option<Stmt>, Memory>
-    ensures { IfOk result (λ s. option_map stmt_of s ≡ expressions.piece_statement (items_of items)) }
+pub fn piece_statement(alloc: Global, items: &mut Vec<Item>) -> Result<Option<Stmt>, Memory>
+    ensures { IfOk result (λ s. option_map stmt_of s ≡ expressions.piece_statement (items_of items.old.items)) }
 {
     match units_in(alloc, items)? {
         Some(units) => statement(alloc, units),
@@ -55,8 +43,8 @@ fn predicate(condition: Expr) -> Option<Stmt>
 }
 
 /// The predicate that a piece is, or none.
-pub fn piece_predicate(alloc: Global, items: Row<Item>) -> Result<Option<Stmt>, Memory>
-    ensures { IfOk result (λ s. option_map stmt_of s ≡ expressions.piece_predicate (items_of items)) }
+pub fn piece_predicate(alloc: Global, items: &mut Vec<Item>) -> Result<Option<Stmt>, Memory>
+    ensures { IfOk result (λ s. option_map stmt_of s ≡ expressions.piece_predicate (items_of items.old.items)) }
 {
     match piece_expression(alloc, items)? {
         Some(condition) => Ok(predicate(condition)),

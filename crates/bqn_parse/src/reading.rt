@@ -20,3 +20,11 @@ pub fn read(units: Vec<Unit>) -> Reading
     let next = rest.pop();
     Reading { next, rest }
 }
+
+/// The next unit has been taken, and the one left of it is next.
+#[tactic(auto, using(crate::proofs::Backward::unit_laws))]
+pub fn advance(left: &mut Reading)
+    ensures { reading_shown left.new ≡ backward left.old.rest.items }
+{
+    left.next = left.rest.pop();
+}

@@ -186,7 +186,7 @@ fn head(
 {
     match header(alloc, piece(tokens, level.first, index)) {
         Ok(h) => {
-            level.and_header(alloc, h);
+            level.and_header(h);
             Ok(())
         }
         Err(HeadError::Bad) => Err(ParseError::Refused(Refusal::BadBlock(first_place(

@@ -1,15 +1,15 @@
 ghost use Rattle.std.specs.Prelude.{◌≡◌, ◌≤◌, ◌+◌, IfOk, ◌∷◌, length};
 ghost use Rattle.std.specs.Option.{option_map};
-ghost use Rattle.bqn_syntax.specs.Expressions.{assigned, changed, more, steps_of};
-ghost use Rattle.bqn_syntax.specs.Plain.{Apply, Assign, Modify, Name, derived_of, none, part_of, pattern_of, some};
+ghost use Rattle.bqn_syntax.specs.Expressions.{assigned, changed, steps_of};
+ghost use Rattle.bqn_syntax.specs.Plain.{Apply, Assign, Modify, Name, derived_of, none, part_of, pattern_of, some, step_of};
 ghost use Rattle.bqn_syntax.specs.Units.{Function, Arrow'};
 ghost use Rattle.bqn_syntax.specs.declared.tree.Arrow.TheVariants as arrows;
-ghost use Rattle.bqn_parse.specs.Leftward.{reading_shown, next_shown, steps_shown, left_of};
+ghost use Rattle.bqn_parse.specs.Leftward.{joined, reading_shown, next_shown, steps_shown, left_of};
 ghost use Rattle.bqn_parse.specs.Views.{backward};
 
-use crate::ends::pushed;
+use crate::ends::{pushed, with_room};
 use crate::named::named;
-use crate::reading::{Reading, read};
+use crate::reading::{Reading, advance};
 use crate::unit::Unit;
 use bqn_base::{Memory, Row};
 use bqn_syntax::{Arrow, Derived, Part, Pattern, Step, Tag, Token};
@@ -21,121 +21,109 @@ pub enum Next {
     End,
     /// Nothing that can be done with a value.
     Wrong,
-    Step(Step, Reading),
+    Step(Step),
 }
 
 /// A call of a function with a left argument.
-fn called_on(function: Derived, argument: Part, rest: Vec<Unit>) -> Next
-    ensures means { more (Apply (derived_of function) (some (part_of argument))) (steps_of (backward rest.items)) ≡ next_shown result }
-    ensures shorter { left_of result ≤ length (backward rest.items) + 1 }
+#[tactic(auto, using(bqn_syntax::specs::Levels::levels))]
+fn called_on(function: Derived, argument: Part) -> Step
+    ensures { step_of result ≡ Apply (derived_of function) (some (part_of argument)) }
 {
-    let step = Step::Apply {
+    Step::Apply {
         function,
         left: Some(argument),
-    };
-    Next::Step(step, read(rest))
+    }
 }
 
 /// A call of a function without a left argument.
-fn called_alone(function: Derived, left: Reading) -> Next
-    ensures means { more (Apply (derived_of function) none) (steps_of (reading_shown left)) ≡ next_shown result }
-    ensures shorter { left_of result ≤ length (reading_shown left) + 1 }
+#[tactic(auto, using(bqn_syntax::specs::Levels::levels))]
+fn called_alone(function: Derived) -> Step
+    ensures { step_of result ≡ Apply (derived_of function) none }
 {
-    let step = Step::Apply {
+    Step::Apply {
         function,
         left: None,
-    };
-    Next::Step(step, left)
+    }
 }
 
 /// An assignment to a target.
-fn assigned_to(target: Pattern, arrow: Arrow, rest: Vec<Unit>) -> Next
-    ensures means { more (Assign (pattern_of target) arrow) (steps_of (backward rest.items)) ≡ next_shown result }
-    ensures shorter { left_of result ≤ length (backward rest.items) + 1 }
+#[tactic(auto, using(bqn_syntax::specs::Levels::levels))]
+fn assigned_to(target: Pattern, arrow: Arrow) -> Step
+    ensures { step_of result ≡ Assign (pattern_of target) arrow }
 {
-    let step = Step::Assign { target, arrow };
-    Next::Step(step, read(rest))
+    Step::Assign { target, arrow }
 }
 
 /// An assignment to a name.
-fn assigned_token(token: Token, arrow: Arrow, rest: Vec<Unit>) -> Next
-    ensures means { more (Assign (Name token) arrow) (steps_of (backward rest.items)) ≡ next_shown result }
-    ensures shorter { left_of result ≤ length (backward rest.items) + 1 }
+#[tactic(auto, using(bqn_syntax::specs::Levels::levels))]
+fn assigned_token(token: Token, arrow: Arrow) -> Step
+    ensures { step_of result ≡ Assign (Name token) arrow }
 {
-    let step = Step::Assign {
-        target: Pattern::Name(token),
-        arrow,
-    };
-    Next::Step(step, read(rest))
+    assigned_to(Pattern::Name(token), arrow)
 }
 
 /// A change of a name by a function.
-fn modified(target: Token, function: Derived, rest: Vec<Unit>) -> Next
-    ensures means { more (Modify target (derived_of function)) (steps_of (backward rest.items)) ≡ next_shown result }
-    ensures shorter { left_of result ≤ length (backward rest.items) + 1 }
+#[tactic(auto, using(bqn_syntax::specs::Levels::levels))]
+fn modified(target: Token, function: Derived) -> Step
+    ensures { step_of result ≡ Modify target (derived_of function) }
 {
-    let step = Step::Modify { target, function };
-    Next::Step(step, read(rest))
+    Step::Modify { target, function }
 }
 
-/// An assignment to a name, where it is one.
-fn assigned_name(name: Option<Token>, arrow: Arrow, rest: Vec<Unit>) -> Next
-    ensures means { assigned name arrow (steps_of (backward rest.items)) ≡ next_shown result }
-    ensures shorter { left_of result ≤ length (backward rest.items) + 1 }
+/// An assignment to a name, where it is one, and what is left.
+fn assigned_name(name: Option<Token>, arrow: Arrow, left: &mut Reading) -> Next
+    ensures means { assigned name arrow (steps_of (backward left.old.rest.items)) ≡ next_shown result (reading_shown left.new) }
+    ensures shorter { left_of result (reading_shown left.new) ≤ length (backward left.old.rest.items) + 1 }
 {
+    advance(left);
     match name {
-        Some(token) => assigned_token(token, arrow, rest),
+        Some(token) => Next::Step(assigned_token(token, arrow)),
         None => Next::Wrong,
     }
 }
 
-/// A change of a name by a function, where it is one.
-fn changed_name(name: Option<Token>, function: Derived, rest: Vec<Unit>) -> Next
-    ensures means { changed name (derived_of function) (steps_of (backward rest.items)) ≡ next_shown result }
-    ensures shorter { left_of result ≤ length (backward rest.items) + 1 }
+/// A change of a name by a function, where it is one, and what is left.
+fn changed_name(name: Option<Token>, function: Derived, left: &mut Reading) -> Next
+    ensures means { changed name (derived_of function) (steps_of (backward left.old.rest.items)) ≡ next_shown result (reading_shown left.new) }
+    ensures shorter { left_of result (reading_shown left.new) ≤ length (backward left.old.rest.items) + 1 }
 {
+    advance(left);
     match name {
-        Some(target) => modified(target, function, rest),
+        Some(target) => Next::Step(modified(target, function)),
         None => Next::Wrong,
     }
 }
 
 /// A call of a function, whose left argument is next, if there is one.
-pub fn called(function: Derived, left: Reading) -> Next
-    ensures means { steps_of (Function (derived_of function) ∷ reading_shown left) ≡ next_shown result }
-    ensures shorter { left_of result ≤ length (reading_shown left) + 1 }
+pub fn called(function: Derived, left: &mut Reading) -> Next
+    ensures means { steps_of (Function (derived_of function) ∷ reading_shown left.old) ≡ next_shown result (reading_shown left.new) }
+    ensures shorter { left_of result (reading_shown left.new) ≤ length (reading_shown left.old) + 1 }
 {
-    let Reading { next, rest } = left;
-    match next {
-        Some(Unit::Subject(part)) => called_on(function, part, rest),
-        Some(Unit::Absent(part)) => called_on(function, part, rest),
-        Some(Unit::Function(before)) => called_alone(
-            function,
-            Reading {
-                next: Some(Unit::Function(before)),
-                rest,
-            },
-        ),
-        Some(Unit::Arrow(arrow)) => called_alone(
-            function,
-            Reading {
-                next: Some(Unit::Arrow(arrow)),
-                rest,
-            },
-        ),
-        None => called_alone(function, Reading { next: None, rest }),
+    match left.next.take() {
+        Some(Unit::Subject(part)) | Some(Unit::Absent(part)) => {
+            advance(left);
+            Next::Step(called_on(function, part))
+        }
+        Some(Unit::Function(before)) => {
+            left.next = Some(Unit::Function(before));
+            Next::Step(called_alone(function))
+        }
+        Some(Unit::Arrow(arrow)) => {
+            left.next = Some(Unit::Arrow(arrow));
+            Next::Step(called_alone(function))
+        }
+        None => Next::Step(called_alone(function)),
         Some(Unit::Alone(_)) | Some(Unit::Aim(_)) => Next::Wrong,
     }
 }
 
 /// A function behind the arrow `↩`, which changes the name that is next.
-pub fn change(function: Derived, left: Reading) -> Next
-    ensures means { steps_of (Arrow' arrows.Change ∷ Function (derived_of function) ∷ reading_shown left) ≡ next_shown result }
-    ensures shorter { left_of result ≤ length (reading_shown left) + 1 }
+pub fn change(function: Derived, left: &mut Reading) -> Next
+    ensures means { steps_of (Arrow' arrows.Change ∷ Function (derived_of function) ∷ reading_shown left.old) ≡ next_shown result (reading_shown left.new) }
+    ensures shorter { left_of result (reading_shown left.new) ≤ length (reading_shown left.old) + 1 }
 {
-    let Reading { next, rest } = left;
-    match next {
-        Some(Unit::Subject(part)) => changed_name(named(Tag::Subject, part), function, rest),
+    match left.next.take() {
+        Some(Unit::Subject(part)) => changed_name(named(Tag::Subject, part), function, left),
         Some(Unit::Function(_))
         | Some(Unit::Absent(_))
         | Some(Unit::Alone(_))
@@ -146,9 +134,9 @@ pub fn change(function: Derived, left: Reading) -> Next
 }
 
 /// A function behind an arrow.
-fn change_by(arrow: Arrow, function: Derived, left: Reading) -> Next
-    ensures means { steps_of (Arrow' arrow ∷ Function (derived_of function) ∷ reading_shown left) ≡ next_shown result }
-    ensures shorter { left_of result ≤ length (reading_shown left) + 1 }
+fn change_by(arrow: Arrow, function: Derived, left: &mut Reading) -> Next
+    ensures means { steps_of (Arrow' arrow ∷ Function (derived_of function) ∷ reading_shown left.old) ≡ next_shown result (reading_shown left.new) }
+    ensures shorter { left_of result (reading_shown left.new) ≤ length (reading_shown left.old) + 1 }
 {
     match arrow {
         Arrow::Change => change(function, left),
@@ -157,51 +145,78 @@ fn change_by(arrow: Arrow, function: Derived, left: Reading) -> Next
 }
 
 /// What an arrow does, by the target that is next.
-fn drawn(arrow: Arrow, left: Reading) -> Next
-    ensures means { steps_of (Arrow' arrow ∷ reading_shown left) ≡ next_shown result }
-    ensures shorter { left_of result ≤ length (reading_shown left) + 1 }
+fn drawn(arrow: Arrow, left: &mut Reading) -> Next
+    ensures means { steps_of (Arrow' arrow ∷ reading_shown left.old) ≡ next_shown result (reading_shown left.new) }
+    ensures shorter { left_of result (reading_shown left.new) ≤ length (reading_shown left.old) + 1 }
 {
-    let Reading { next, rest } = left;
-    match next {
-        Some(Unit::Aim(target)) => assigned_to(target, arrow, rest),
-        Some(Unit::Subject(part)) => assigned_name(named(Tag::Subject, part), arrow, rest),
-        Some(Unit::Function(function)) => change_by(arrow, function, read(rest)),
+    match left.next.take() {
+        Some(Unit::Aim(target)) => {
+            advance(left);
+            Next::Step(assigned_to(target, arrow))
+        }
+        Some(Unit::Subject(part)) => assigned_name(named(Tag::Subject, part), arrow, left),
+        Some(Unit::Function(function)) => {
+            advance(left);
+            change_by(arrow, function, left)
+        }
         Some(Unit::Absent(_)) | Some(Unit::Alone(_)) | Some(Unit::Arrow(_)) | None => Next::Wrong,
     }
 }
 
 /// What is done with a value, by what stands left of it.
-pub fn next_step(left: Reading) -> Next
-    ensures means { steps_of (reading_shown left) ≡ next_shown result }
-    ensures shorter { left_of result ≤ length (reading_shown left) }
+pub fn next_step(left: &mut Reading) -> Next
+    ensures means { steps_of (reading_shown left.old) ≡ next_shown result (reading_shown left.new) }
+    ensures shorter { left_of result (reading_shown left.new) ≤ length (reading_shown left.old) }
 {
-    let Reading { next, rest } = left;
-    match next {
+    match left.next.take() {
         None => Next::End,
-        Some(Unit::Function(function)) => called(function, read(rest)),
-        Some(Unit::Arrow(arrow)) => drawn(arrow, read(rest)),
+        Some(Unit::Function(function)) => {
+            advance(left);
+            called(function, left)
+        }
+        Some(Unit::Arrow(arrow)) => {
+            advance(left);
+            drawn(arrow, left)
+        }
         Some(Unit::Subject(_))
         | Some(Unit::Absent(_))
         | Some(Unit::Alone(_))
-        | Some(Unit::Aim(_)) => { Next::Wrong }
+        | Some(Unit::Aim(_)) => Next::Wrong,
     }
 }
 
-/// All that is done with a value, from this on, or none where it is no value.
+/// So many steps are to be expected where these units are left: most steps take two.
+fn room_for(left: &Reading) -> usize {
+    match &left.next {
+        None => 1,
+        Some(_) => left.rest.len() / 2 + 2,
+    }
+}
+
+/// These steps, and then all that is done from this on, or none where it is no value.
 #[tactic(auto, using(crate::proofs::Leftward::step_laws))]
-pub fn steps(alloc: Global, first: Next) -> Result<Option<Row<Step>>, Memory>
-    ensures { IfOk result (λ all. option_map steps_shown all ≡ next_shown first) }
+fn steps_onto(done: Vec<Step>, first: Next, left: &mut Reading) -> Result<Option<Row<Step>>, Memory>
+    ensures { IfOk result (λ all. option_map steps_shown all ≡ joined done.items (next_shown first (reading_shown left.old))) }
 {
-    let mut steps = Vec::new(alloc);
+    let mut steps = done;
     let mut next = first;
     'steps: loop {
         match next {
             Next::End => return Ok(Some(Row::new(steps))),
             Next::Wrong => return Ok(None),
-            Next::Step(step, left) => {
+            Next::Step(step) => {
                 steps = pushed(steps, step)?;
                 next = next_step(left);
             }
         }
     }
+}
+
+/// All that is done with a value, from this on, or none where it is no value.
+#[tactic(auto, using(crate::proofs::Leftward::step_laws))]
+pub fn steps(alloc: Global, first: Next, left: &mut Reading) -> Result<Option<Row<Step>>, Memory>
+    ensures { IfOk result (λ all. option_map steps_shown all ≡ next_shown first (reading_shown left.old)) }
+{
+    let room = with_room(alloc, room_for(left))?;
+    steps_onto(room, first, left)
 }

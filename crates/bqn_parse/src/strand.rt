@@ -1,24 +1,15 @@
-ghost use Rattle.std.specs.Prelude.{◌≡◌, ◌∷◌, ◌++◌, [], map, IfOk, OnOk};
+ghost use Rattle.std.specs.Prelude.{◌≡◌, map, IfOk};
 ghost use Rattle.std.specs.Option.{option_map};
 ghost use Rattle.bqn_syntax.specs.Items as items;
 ghost use Rattle.bqn_syntax.specs.Plain.{part_of, pattern_of};
 ghost use Rattle.bqn_parse.specs.Views.{element_of};
 ghost use Rattle.bqn_parse.specs.Strands.{elements_of};
 
+use crate::ends::{push, with_room};
 use crate::item::Element;
 use bqn_base::{Memory, Row};
 use bqn_syntax::{Kind, Part, Pattern, Token};
 use std::alloc::Global;
-
-/// One more at the end.
-pub fn push<T: Drop>(all: &mut Vec<T>, one: T) -> Result<(), Memory>
-    ensures { OnOk result (all.new.items ≡ all.old.items ++ one ∷ []) }
-{
-    match all.push(one) {
-        Ok(()) => Ok(()),
-        Err(_) => Err(Memory),
-    }
-}
 
 /// The pattern that a token is, or none: a name, or a literal where there may be some.
 #[tactic(auto, using(bqn_syntax::specs::Levels::levels))]
@@ -68,7 +59,7 @@ pub fn element_patterns(
 ) -> Result<Option<Row<Pattern>>, Memory>
     ensures { IfOk result (λ all. option_map (map pattern_of) all ≡ items.each (items.element_pattern literals) (elements_of elements.items)) }
 {
-    let mut patterns = Vec::new(alloc);
+    let mut patterns = with_room(alloc, elements.len())?;
     'elements: for element in elements {
         match element_pattern(literals, element) {
             Some(pattern) => push(&mut patterns, pattern)?,
@@ -83,7 +74,7 @@ pub fn element_patterns(
 pub fn element_parts(alloc: Global, elements: Vec<Element>) -> Result<Option<Row<Part>>, Memory>
     ensures { IfOk result (λ all. option_map (map part_of) all ≡ items.each items.element_part (elements_of elements.items)) }
 {
-    let mut parts = Vec::new(alloc);
+    let mut parts = with_room(alloc, elements.len())?;
     'elements: for element in elements {
         match element_part(element) {
             Some(part) => push(&mut parts, part)?,

@@ -1,34 +1,40 @@
-ghost use Rattle.std.specs.Prelude.{◌≡◌, ◌<◌, IfOk, length};
-ghost use Rattle.std.specs.Option.{option_map};
+ghost use Rattle.std.specs.Prelude.{◌≡◌, ◌<◌, IfOk, [], length, reverse};
+ghost use Rattle.std.specs.Option.{option_and_then, option_map};
+ghost use Rattle.bqn_syntax.specs.Expressions as expressions;
 ghost use Rattle.bqn_syntax.specs.Items as items;
-ghost use Rattle.bqn_syntax.specs.Items.{terms_of};
 ghost use Rattle.bqn_syntax.specs.Plain.{part_of};
+ghost use Rattle.bqn_syntax.specs.Units.{bound};
+ghost use Rattle.bqn_parse.specs.Fused.{draw, drawn, ended, join, piece, put, select, stand, units_with, with_term};
+ghost use Rattle.bqn_parse.specs.Grouping.{grouping_shown};
 ghost use Rattle.bqn_parse.specs.Strands.{elements_of, reader_of, reading_of};
-ghost use Rattle.bqn_parse.specs.Views.{element_of, item_of, items_of, term_of, terms_shown};
+ghost use Rattle.bqn_parse.specs.Views.{backward, element_of, item_of, items_of, when};
 
+use crate::ends::{push, with_room};
 use crate::item::{Element, Item};
-use crate::strand::{element_parts, element_patterns, push};
+use crate::strand::{element_parts, element_patterns};
 use crate::tags::tag_of;
-use crate::term::Term;
+use crate::unit::Unit;
+use crate::units::{Binding, Grouping, beside, bind_part, closed};
 use bqn_base::{Memory, Row};
 use bqn_syntax::{Arrow, Kind, Part, Pattern, Tag, Token};
 use sqlite_items::Boxed;
 use std::alloc::Global;
+use std::mem;
 
-/// What is being read: nothing; an element, behind those that are joined to it; what a joiner or a
-/// dot asks for.
+/// What is being read: nothing; an element; what a joiner or a dot asks for.
 #[derive(Drop)]
 enum Reading {
     Between,
-    At(Vec<Element>, Element),
-    Joined(Vec<Element>),
-    Selected(Vec<Element>, Part),
+    At(Element),
+    Joined,
+    Selected(Part),
 }
 
-/// The terms so far, and what is being read.
+/// The units so far; what is being read, and the elements that are joined to it.
 #[derive(Drop)]
 struct Reader {
-    terms: Vec<Term>,
+    grouping: Grouping,
+    joined: Vec<Element>,
     reading: Reading,
 }
 
@@ -36,17 +42,18 @@ struct Reader {
 #[tactic(auto, using(bqn_syntax::specs::Levels::levels, crate::proofs::Readers::strand_laws))]
 fn plain_strand(
     alloc: Global,
+    grouping: &mut Grouping,
     joined: Vec<Element>,
     element: Element,
-) -> Result<Option<Term>, Memory>
+) -> Result<bool, Memory>
     requires { 0 < length joined.items }
-    ensures { IfOk result (λ term. option_map term_of term ≡ items.plain_term (elements_of joined.items) (element_of element)) }
+    ensures { IfOk result (λ fine. when fine (grouping_shown grouping.new) ≡ with_term (grouping_shown grouping.old) (items.plain_term (elements_of joined.items) (element_of element))) }
 {
     let mut elements = joined;
     push(&mut elements, element)?;
     match element_parts(alloc, elements) {
-        Ok(Some(parts)) => Ok(Some(Term::Operand(Part::Strand(parts)))),
-        Ok(None) => Ok(None),
+        Ok(Some(parts)) => bind_part(alloc, grouping, Part::Strand(parts)),
+        Ok(None) => Ok(false),
         Err(error) => Err(error),
     }
 }
@@ -55,47 +62,60 @@ fn plain_strand(
 #[tactic(auto, using(bqn_syntax::specs::Levels::levels, crate::proofs::Readers::strand_laws))]
 fn aimed_strand(
     alloc: Global,
+    grouping: &mut Grouping,
     joined: Vec<Element>,
     element: Element,
-) -> Result<Option<Term>, Memory>
+) -> Result<bool, Memory>
     requires { 0 < length joined.items }
-    ensures { IfOk result (λ term. option_map term_of term ≡ items.aimed_term (elements_of joined.items) (element_of element)) }
+    ensures { IfOk result (λ fine. when fine (grouping_shown grouping.new) ≡ with_term (grouping_shown grouping.old) (items.aimed_term (elements_of joined.items) (element_of element))) }
 {
     let mut elements = joined;
     push(&mut elements, element)?;
     match element_patterns(alloc, false, elements) {
-        Ok(Some(patterns)) => Ok(Some(Term::Target(Pattern::Strand(patterns)))),
-        Ok(None) => Ok(None),
+        Ok(Some(patterns)) => beside(grouping, Unit::Aim(Pattern::Strand(patterns))),
+        Ok(None) => Ok(false),
         Err(error) => Err(error),
     }
 }
 
 /// An element where no arrow follows, behind those that are joined to it.
 #[tactic(auto, using(bqn_syntax::specs::Levels::levels))]
-fn plain_term(alloc: Global, joined: Vec<Element>, element: Element) -> Result<Option<Term>, Memory>
-    ensures { IfOk result (λ term. option_map term_of term ≡ items.plain_term (elements_of joined.items) (element_of element)) }
+fn plain_term(
+    alloc: Global,
+    grouping: &mut Grouping,
+    joined: &mut Vec<Element>,
+    element: Element,
+) -> Result<bool, Memory>
+    ensures { IfOk result (λ fine. when fine (grouping_shown grouping.new) ≡ with_term (grouping_shown grouping.old) (items.plain_term (elements_of joined.old.items) (element_of element))) }
 {
     if !joined.is_empty() {
-        return plain_strand(alloc, joined, element);
+        let joined = mem::replace(joined, Vec::new(alloc));
+        return plain_strand(alloc, grouping, joined, element);
     }
     match element {
-        Element::Part(part) => Ok(Some(Term::Operand(part))),
-        Element::List(_) => Ok(None),
+        Element::Part(part) => bind_part(alloc, grouping, part),
+        Element::List(_) => Ok(false),
     }
 }
 
 /// An element directly before an arrow: a list or a strand there is a pattern.
 #[tactic(auto, using(bqn_syntax::specs::Levels::levels))]
-fn aimed_term(alloc: Global, joined: Vec<Element>, element: Element) -> Result<Option<Term>, Memory>
-    ensures { IfOk result (λ term. option_map term_of term ≡ items.aimed_term (elements_of joined.items) (element_of element)) }
+fn aimed_term(
+    alloc: Global,
+    grouping: &mut Grouping,
+    joined: &mut Vec<Element>,
+    element: Element,
+) -> Result<bool, Memory>
+    ensures { IfOk result (λ fine. when fine (grouping_shown grouping.new) ≡ with_term (grouping_shown grouping.old) (items.aimed_term (elements_of joined.old.items) (element_of element))) }
 {
     if !joined.is_empty() {
-        return aimed_strand(alloc, joined, element);
+        let joined = mem::replace(joined, Vec::new(alloc));
+        return aimed_strand(alloc, grouping, joined, element);
     }
     match element {
-        Element::Part(Part::List(_)) => Ok(None),
-        Element::Part(part) => Ok(Some(Term::Operand(part))),
-        Element::List(pattern) => Ok(Some(Term::Target(pattern))),
+        Element::Part(Part::List(_)) => Ok(false),
+        Element::Part(part) => bind_part(alloc, grouping, part),
+        Element::List(pattern) => beside(grouping, Unit::Aim(pattern)),
     }
 }
 
@@ -131,167 +151,203 @@ fn with_name(alloc: Global, part: Part, name: Token) -> Result<Part, Memory>
 #[tactic(auto, using(bqn_syntax::specs::Levels::levels))]
 fn selected(
     alloc: Global,
-    terms: Vec<Term>,
-    joined: Vec<Element>,
+    reader: &mut Reader,
     part: Part,
     element: Element,
-) -> Result<Option<Reader>, Memory>
-    ensures { IfOk result (λ reader. option_map reader_of reader ≡ items.stand (terms_shown terms.items) (items.Selected (elements_of joined.items) (part_of part)) (element_of element)) }
+) -> Result<bool, Memory>
+    ensures { IfOk result (λ fine. when fine (reader_of reader.new) ≡ stand (grouping_shown reader.old.grouping) (items.Selected (elements_of reader.old.joined.items) (part_of part)) (element_of element)) }
 {
     let name = match element {
         Element::Part(Part::Leaf(name)) => name,
-        Element::Part(_) => return Ok(None),
-        Element::List(_) => return Ok(None),
+        Element::Part(_) => return Ok(false),
+        Element::List(_) => return Ok(false),
     };
     if !matches!(&name.kind, Kind::Word(..)) {
-        return Ok(None);
+        return Ok(false);
     }
-    match with_name(alloc, part, name) {
-        Ok(field) => Ok(Some(Reader {
-            terms,
-            reading: Reading::At(joined, Element::Part(field)),
-        })),
-        Err(error) => Err(error),
+    let field = with_name(alloc, part, name)?;
+    reader.reading = Reading::At(Element::Part(field));
+    Ok(true)
+}
+
+/// An element that nothing is joined to.
+fn begin(reader: &mut Reader, element: Element)
+    ensures { reader_of reader.new ≡ piece (grouping_shown reader.old.grouping) (items.At [] (element_of element)) }
+{
+    reader.joined.clear();
+    reader.reading = Reading::At(element);
+}
+
+/// An element directly behind another one.
+fn stand_behind(
+    alloc: Global,
+    reader: &mut Reader,
+    before: Element,
+    element: Element,
+) -> Result<bool, Memory>
+    ensures { IfOk result (λ fine. when fine (reader_of reader.new) ≡ stand (grouping_shown reader.old.grouping) (items.At (elements_of reader.old.joined.items) (element_of before)) (element_of element)) }
+{
+    if !plain_term(alloc, &mut reader.grouping, &mut reader.joined, before)? {
+        return Ok(false);
     }
+    begin(reader, element);
+    Ok(true)
 }
 
 /// An element, where one may stand.
-#[tactic(auto, using(bqn_syntax::specs::Levels::levels))]
-fn stand(alloc: Global, reader: Reader, element: Element) -> Result<Option<Reader>, Memory>
-    ensures { IfOk result (λ next. option_map reader_of next ≡ items.stand (terms_shown reader.terms.items) (reading_of reader.reading) (element_of element)) }
+fn stand(alloc: Global, reader: &mut Reader, element: Element) -> Result<bool, Memory>
+    ensures { IfOk result (λ fine. when fine (reader_of reader.new) ≡ stand (grouping_shown reader.old.grouping) (reading_of (elements_of reader.old.joined.items) reader.old.reading) (element_of element)) }
 {
-    let Reader { mut terms, reading } = reader;
-    match reading {
-        Reading::Between => Ok(Some(Reader {
-            terms,
-            reading: Reading::At(Vec::new(alloc), element),
-        })),
-        Reading::At(joined, before) => match plain_term(alloc, joined, before) {
-            Ok(Some(term)) => {
-                push(&mut terms, term)?;
-                Ok(Some(Reader {
-                    terms,
-                    reading: Reading::At(Vec::new(alloc), element),
-                }))
-            }
-            Ok(None) => Ok(None),
-            Err(error) => Err(error),
-        },
-        Reading::Joined(joined) => Ok(Some(Reader {
-            terms,
-            reading: Reading::At(joined, element),
-        })),
-        Reading::Selected(joined, part) => selected(alloc, terms, joined, part, element),
+    match mem::replace(&mut reader.reading, Reading::Between) {
+        Reading::Between => {
+            begin(reader, element);
+            Ok(true)
+        }
+        Reading::At(before) => stand_behind(alloc, reader, before, element),
+        Reading::Joined => {
+            reader.reading = Reading::At(element);
+            Ok(true)
+        }
+        Reading::Selected(part) => selected(alloc, reader, part, element),
     }
 }
 
 /// A joiner.
-fn join(reader: Reader) -> Result<Option<Reader>, Memory>
-    ensures { IfOk result (λ next. option_map reader_of next ≡ items.join (terms_shown reader.terms.items) (reading_of reader.reading)) }
+#[tactic(auto, using(crate::proofs::Walking::append_laws))]
+fn join(reader: &mut Reader) -> Result<bool, Memory>
+    ensures { IfOk result (λ fine. when fine (reader_of reader.new) ≡ join (grouping_shown reader.old.grouping) (reading_of (elements_of reader.old.joined.items) reader.old.reading)) }
 {
-    let Reader { terms, reading } = reader;
-    match reading {
-        Reading::At(mut joined, element) => {
-            push(&mut joined, element)?;
-            Ok(Some(Reader {
-                terms,
-                reading: Reading::Joined(joined),
-            }))
+    match mem::replace(&mut reader.reading, Reading::Joined) {
+        Reading::At(element) => {
+            push(&mut reader.joined, element)?;
+            Ok(true)
         }
-        Reading::Between | Reading::Joined(_) | Reading::Selected(..) => Ok(None),
+        Reading::Between | Reading::Joined | Reading::Selected(_) => Ok(false),
     }
 }
 
 /// A dot. A field is one of a subject.
-fn select(reader: Reader) -> Option<Reader>
-    ensures { option_map reader_of result ≡ items.select (terms_shown reader.terms.items) (reading_of reader.reading) }
+fn select(reader: &mut Reader) -> bool
+    ensures { when result (reader_of reader.new) ≡ select (grouping_shown reader.old.grouping) (reading_of (elements_of reader.old.joined.items) reader.old.reading) }
 {
-    let Reader { terms, reading } = reader;
-    match reading {
-        Reading::At(joined, element) => match element {
-            Element::Part(part) => {
-                if tag_of(&part) != Tag::Subject {
-                    return None;
-                }
-                Some(Reader {
-                    terms,
-                    reading: Reading::Selected(joined, part),
-                })
+    match mem::replace(&mut reader.reading, Reading::Between) {
+        Reading::At(Element::Part(part)) => {
+            if tag_of(&part) != Tag::Subject {
+                return false;
             }
-            Element::List(_) => None,
-        },
-        Reading::Between | Reading::Joined(_) | Reading::Selected(..) => None,
+            reader.reading = Reading::Selected(part);
+            true
+        }
+        Reading::At(Element::List(_)) => false,
+        Reading::Between | Reading::Joined | Reading::Selected(_) => false,
     }
+}
+
+/// An arrow directly behind an element.
+fn draw_behind(
+    alloc: Global,
+    grouping: &mut Grouping,
+    joined: &mut Vec<Element>,
+    before: Element,
+    arrow: Arrow,
+) -> Result<bool, Memory>
+    ensures { IfOk result (λ fine. when fine (grouping_shown grouping.new) ≡ option_and_then (λ next. drawn arrow next) (with_term (grouping_shown grouping.old) (items.aimed_term (elements_of joined.old.items) (element_of before)))) }
+{
+    if !aimed_term(alloc, grouping, joined, before)? {
+        return Ok(false);
+    }
+    beside(grouping, Unit::Arrow(arrow))
 }
 
 /// An arrow.
-fn draw(alloc: Global, reader: Reader, arrow: Arrow) -> Result<Option<Reader>, Memory>
-    ensures { IfOk result (λ next. option_map reader_of next ≡ items.put (reader_of reader) (items.Drawn arrow)) }
+#[tactic(auto, using(crate::proofs::Fused::draw_laws))]
+fn draw(alloc: Global, reader: &mut Reader, arrow: Arrow) -> Result<bool, Memory>
+    ensures { IfOk result (λ fine. when fine (reader_of reader.new) ≡ draw (grouping_shown reader.old.grouping) (reading_of (elements_of reader.old.joined.items) reader.old.reading) arrow) }
 {
-    let Reader { mut terms, reading } = reader;
-    match reading {
-        Reading::Between => {}
-        Reading::At(joined, element) => match aimed_term(alloc, joined, element) {
-            Ok(Some(term)) => push(&mut terms, term)?,
-            Ok(None) => return Ok(None),
-            Err(error) => return Err(error),
-        },
-        Reading::Joined(_) | Reading::Selected(..) => return Ok(None),
+    match mem::replace(&mut reader.reading, Reading::Between) {
+        Reading::Between => beside(&mut reader.grouping, Unit::Arrow(arrow)),
+        Reading::At(before) => draw_behind(
+            alloc,
+            &mut reader.grouping,
+            &mut reader.joined,
+            before,
+            arrow,
+        ),
+        Reading::Joined | Reading::Selected(_) => Ok(false),
     }
-    push(&mut terms, Term::Draw(arrow))?;
-    Ok(Some(Reader {
-        terms,
-        reading: Reading::Between,
-    }))
 }
 
 /// One more item.
-fn put(alloc: Global, reader: Reader, item: Item) -> Result<Option<Reader>, Memory>
-    ensures { IfOk result (λ next. option_map reader_of next ≡ items.put (reader_of reader) (item_of item)) }
+fn put(alloc: Global, reader: &mut Reader, item: Item) -> Result<bool, Memory>
+    ensures { IfOk result (λ fine. when fine (reader_of reader.new) ≡ put (reader_of reader.old) (item_of item)) }
 {
     match item {
         Item::Standing(element) => stand(alloc, reader, element),
         Item::Drawn(arrow) => draw(alloc, reader, arrow),
         Item::Joining => join(reader),
         Item::Selecting => Ok(select(reader)),
-        Item::Wrong => Ok(None),
+        Item::Wrong => Ok(false),
     }
 }
 
-/// The terms of a piece that ends here.
-fn finished(alloc: Global, reader: Reader) -> Result<Option<Row<Term>>, Memory>
-    ensures { IfOk result (λ terms. option_map terms_shown terms ≡ items.finished (reader_of reader)) }
+/// The element that is read last ends.
+fn end_behind(
+    alloc: Global,
+    grouping: &mut Grouping,
+    joined: &mut Vec<Element>,
+    last: Element,
+) -> Result<bool, Memory>
+    ensures { IfOk result (λ fine. when fine (backward grouping.new.units.items) ≡ option_and_then (λ next. bound next) (with_term (grouping_shown grouping.old) (items.plain_term (elements_of joined.old.items) (element_of last)))) }
 {
-    let Reader { mut terms, reading } = reader;
-    match reading {
-        Reading::Between => Ok(Some(Row::new(terms))),
-        Reading::At(joined, element) => match plain_term(alloc, joined, element) {
-            Ok(Some(term)) => {
-                push(&mut terms, term)?;
-                Ok(Some(Row::new(terms)))
-            }
-            Ok(None) => Ok(None),
-            Err(error) => Err(error),
-        },
-        Reading::Joined(_) | Reading::Selected(..) => Ok(None),
+    if !plain_term(alloc, grouping, joined, last)? {
+        return Ok(false);
+    }
+    closed(grouping)
+}
+
+/// The piece ends here.
+fn finished(alloc: Global, reader: &mut Reader) -> Result<bool, Memory>
+    ensures { IfOk result (λ fine. when fine (backward reader.new.grouping.units.items) ≡ ended (grouping_shown reader.old.grouping) (reading_of (elements_of reader.old.joined.items) reader.old.reading)) }
+{
+    match mem::replace(&mut reader.reading, Reading::Between) {
+        Reading::Between => closed(&mut reader.grouping),
+        Reading::At(last) => end_behind(alloc, &mut reader.grouping, &mut reader.joined, last),
+        Reading::Joined | Reading::Selected(_) => Ok(false),
     }
 }
 
-/// The terms of a piece, or none where its items have no such form.
-#[tactic(auto, using(crate::proofs::Readers::puts_laws))]
-pub fn terms(alloc: Global, items: Row<Item>) -> Result<Option<Row<Term>>, Memory>
-    ensures { IfOk result (λ terms. option_map terms_shown terms ≡ terms_of (items_of items)) }
+/// The items that are left, the first of them last, and then the end of the piece.
+#[tactic(auto, using(crate::proofs::Fused::loop_laws, crate::proofs::Fused::turn_laws))]
+fn read_all(alloc: Global, reader: &mut Reader, items: &mut Vec<Item>) -> Result<bool, Memory>
+    ensures { IfOk result (λ fine. when fine (backward reader.new.grouping.units.items) ≡ units_with (reader_of reader.old) (items_of (reverse items.old.items))) }
 {
-    let mut reader = Reader {
-        terms: Vec::new(alloc),
-        reading: Reading::Between,
-    };
-    'items: for item in items.into_vec() {
+    'items: while let Some(item) = items.pop() {
         match put(alloc, reader, item) {
-            Ok(Some(next)) => reader = next,
-            Ok(None) => return Ok(None),
+            Ok(true) => {}
+            Ok(false) => return Ok(false),
             Err(error) => return Err(error),
         }
     }
     finished(alloc, reader)
+}
+
+/// The units of a piece in order, or none where its items have no such form. The items are used up.
+#[tactic(auto, using(crate::proofs::Fused::loop_laws, crate::proofs::Fused::turn_laws))]
+pub fn units_in(alloc: Global, items: &mut Vec<Item>) -> Result<Option<Row<Unit>>, Memory>
+    ensures { IfOk result (λ units. option_map backward units ≡ expressions.units_in (items_of items.old.items)) }
+{
+    let mut reader = Reader {
+        grouping: Grouping {
+            units: with_room(alloc, items.len())?,
+            binding: Binding::Free,
+        },
+        joined: Vec::new(alloc),
+        reading: Reading::Between,
+    };
+    items.reverse();
+    if !read_all(alloc, &mut reader, items)? {
+        return Ok(None);
+    }
+    let Reader { grouping, .. } = reader;
+    Ok(Some(Row::new(grouping.units)))
 }

@@ -1,2 +1,11 @@
 mod Samples
 pub mod Spelling
+pub mod Backward
+pub mod Unstarted
+pub mod Spots
+pub mod Defining
+pub mod Waiting
+pub mod Slots
+pub mod Uses
+pub mod Exporting
+pub mod Program

@@ -1,11 +1,46 @@
 -- The place of a name, among keys and among the names that they spell.
-use Rattle.std.proofs.Common.{◌≡◌, ◌+◌, ◌<◌, ◌≤◌, ℕ, Bool, false, not, cond, if◌then◌else◌, List, [], ◌∷◌, ◌++◌, Option, Some, None, length, position, Vec, refl, sym, ap, ◌∙◌}
-use Rattle.std.specs.Prelude.{nat_eq, nat_lt}
-use Rattle.std.specs.List.{AllByRecursion, IsDistinct, position_or_len, list_any}
+use Rattle.std.proofs.Common.{◌≡◌, ℕ, ◌+◌, ◌<◌, ◌≤◌, suc, Bool, true, false, not, cond, if◌then◌else◌, List, [], ◌∷◌, ◌++◌, Option, Some, None, length, position, get_or, Vec, zero, refl, sym, ap, subst, ◌∙◌, arith}
+use Rattle.std.specs.Prelude.{nat_eq, nat_lt, ◌||◌, IsTrue}
+use Rattle.std.specs.List.{AllByRecursion, IsDistinct, position_or_len, list_any, list_all}
 use Rattle.std.specs.Cmp.Lexicographic.{pointwise, nat_list_eq_equiv}
 use Rattle.std.proofs.lemmas.List.{length-map}
 use Rattle.std.proofs.lemmas.Bool.{le-ltb, lt-ltb}
-use Rattle.bqn_scope.specs.Names.{AreDistinct, spelled, place_of, with_place, added_unless_held, added}
+use Rattle.std.proofs.lemmas.Bool.Decides.{nat_tests}
+use Rattle.bqn_base.specs.Names.{is_name_character}
+use Rattle.bqn_syntax.specs.Scope.{has}
+use Rattle.bqn_scope.specs.Names.{AreDistinct, AreNames, spelled, place_of, with_place, added_unless_held, added}
+
+one-more : (b a : Bool) (m n : ℕ) → a ≡ nat_lt m n → (b || a) ≡ nat_lt (cond (not b) (1 + m) 0) (suc n)
+one-more true a m n e = sym (lt-ltb 0 (suc n) (omega arith))
+one-more false a m n e = e ∙ behind m n
+  where
+    behind : (m n : ℕ) → nat_lt m n ≡ nat_lt (1 + m) (suc n)
+    behind m n = grind (arith, nat_tests)
+
+-- an element passes where one stands before the end
+pub any-before : {X : Type 0} (p : X → Bool) (xs : List X) → list_any p xs ≡ nat_lt (position_or_len p xs) (length xs)
+any-before p [] = refl
+any-before p (x ∷ xs) = one-more (p x) (list_any p xs) (position_or_len p xs) (length xs) (any-before p xs)
+
+is_none : (b : Bool) (i : ℕ) → cond b (Some i) None ≡ None → b ≡ false
+is_none true i e = cc
+is_none false i e = refl
+
+pub none-passes : {X : Type 0} (p : X → Bool) (xs : List X) → position p xs ≡ None → list_any p xs ≡ false
+none-passes p xs e = any-before p xs ∙ is_none (nat_lt (position_or_len p xs) (length xs)) (position_or_len p xs) e
+
+pub absent : (names : List (List ℕ)) (name : List ℕ) → place_of names name ≡ None → has names name ≡ false
+absent names name e = none-passes (λ other. pointwise nat_eq other name) names e
+
+pub added-full : (name : List ℕ) (names : List (List ℕ)) → place_of names name ≡ None → 65535 ≤ length names → added names name ≡ with_place names None
+added-full name names e full =
+    ap (λ (p : Option ℕ). added_unless_held names name p) e
+    ∙ ap (λ (room : Bool). if room then with_place (names ++ name ∷ []) (Some (length names)) else with_place names None) (le-ltb (length names) 65535 full)
+
+pub added-new : (name : List ℕ) (names : List (List ℕ)) → place_of names name ≡ None → length names < 65535 → added names name ≡ with_place (names ++ name ∷ []) (Some (length names))
+added-new name names e room =
+    ap (λ (p : Option ℕ). added_unless_held names name p) e
+    ∙ ap (λ (r : Bool). if r then with_place (names ++ name ∷ []) (Some (length names)) else with_place names None) (lt-ltb (length names) 65535 room)
 
 module _ {A : Type 0} where
   abbrev pub same : List ℕ → Vec ℕ A → Bool
@@ -30,11 +65,9 @@ module _ {A : Type 0} where
   pub place-spelled : (name : List ℕ) (keys : List (Vec ℕ A)) → place_of (spelled keys) name ≡ position (same name) keys
   place-spelled name keys = λ i. cond (nat_lt (first-spelled name keys i) (length-spelled keys i)) (Some (first-spelled name keys i)) None
 
-  pub added-full : (name : List ℕ) (names : List (List ℕ)) (keys : List (Vec ℕ A)) → names ≡ spelled keys → position (same name) keys ≡ None → 65535 ≤ length keys → added names name ≡ with_place names None
-  added-full name names keys v e full =
-      ap (λ (p : Option ℕ). added_unless_held names name p) (ap (λ (ns : List (List ℕ)). place_of ns name) v ∙ place-spelled name keys ∙ e)
-      ∙ ap (λ (room : Bool). if room then with_place (names ++ name ∷ []) (Some (length names)) else with_place names None)
-      (ap (λ (ns : List (List ℕ)). nat_lt (length ns) 65535) v ∙ ap (λ (n : ℕ). nat_lt n 65535) (length-spelled keys) ∙ le-ltb (length keys) 65535 full)
+  pub has-spelled : (name : List ℕ) (keys : List (Vec ℕ A)) → has (spelled keys) name ≡ list_any (same name) keys
+  has-spelled name [] = refl
+  has-spelled name (key ∷ keys) = λ i. nat_list_eq_equiv.symm key.items name i || has-spelled name keys i
 
   spelled-pushed : (keys : List (Vec ℕ A)) (key : Vec ℕ A) → spelled (keys ++ key ∷ []) ≡ spelled keys ++ key.items ∷ []
   spelled-pushed [] key = refl
@@ -43,19 +76,15 @@ module _ {A : Type 0} where
   abbrev pub inserted : List (Vec ℕ A) → Vec ℕ A → Bool → List (Vec ℕ A)
   inserted keys key there = if there then keys else keys ++ key ∷ []
 
-  spelled-inserted : (name : List ℕ) (keys : List (Vec ℕ A)) (key : Vec ℕ A) → key.items ≡ name → list_any (same name) keys ≡ false → spelled (inserted keys key (list_any (same key.items) keys)) ≡ spelled keys ++ name ∷ []
+  not-there : (name : List ℕ) (keys : List (Vec ℕ A)) (key : Vec ℕ A) → key.items ≡ name → has (spelled keys) name ≡ false → inserted keys key (list_any (same key.items) keys) ≡ keys ++ key ∷ []
+  not-there name keys key e none = ap (inserted keys key) (ap (λ (spelling : List ℕ). list_any (same spelling) keys) e ∙ sym (has-spelled name keys) ∙ none)
+
+  pub spelled-inserted : (name : List ℕ) (keys : List (Vec ℕ A)) (key : Vec ℕ A) → key.items ≡ name → has (spelled keys) name ≡ false → spelled (inserted keys key (list_any (same key.items) keys)) ≡ spelled keys ++ name ∷ []
   spelled-inserted name keys key e none =
-      ap (λ (spelling : List ℕ). spelled (inserted keys key (list_any (same spelling) keys))) e
-      ∙ ap (λ (there : Bool). spelled (inserted keys key there)) none
+      ap (λ (ks : List (Vec ℕ A)). spelled ks) (not-there name keys key e none)
       ∙ spelled-pushed keys key
       ∙ ap (λ (spelling : List ℕ). spelled keys ++ spelling ∷ []) e
 
-  pub added-new : (name : List ℕ) (names : List (List ℕ)) (keys after : List (Vec ℕ A)) (key : Vec ℕ A) → names ≡ spelled keys → position (same name) keys ≡ None → list_any (same name) keys ≡ false → length keys < 65535 → key.items ≡ name → after ≡ inserted keys key (list_any (same key.items) keys) → added names name ≡ with_place (spelled after) (Some (length keys))
-  added-new name names keys after key v e none room k a =
-      ap (λ (ns : List (List ℕ)). added ns name) v
-      ∙ ap (λ (p : Option ℕ). added_unless_held (spelled keys) name p) (place-spelled name keys ∙ e)
-      ∙ ap (λ (n : ℕ). if nat_lt n 65535 then with_place (spelled keys ++ name ∷ []) (Some n) else with_place (spelled keys) None) (length-spelled keys)
-      ∙ ap (λ (r : Bool). if r then with_place (spelled keys ++ name ∷ []) (Some (length keys)) else with_place (spelled keys) None) (lt-ltb (length keys) 65535 room)
-      ∙ ap (λ (ns : List (List ℕ)). with_place ns (Some (length keys))) (sym (ap (λ (ks : List (Vec ℕ A)). spelled ks) a ∙ spelled-inserted name keys key k none))
+pub ruleset name_laws = (place-spelled, has-spelled, length-spelled, distinct-spelled)
 
-pub ruleset name_laws = (place-spelled, length-spelled, distinct-spelled)
+pub ruleset added_laws = (added-full, added-new, absent)

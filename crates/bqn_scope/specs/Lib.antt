@@ -1,1 +1,10 @@
 pub mod Names
+pub mod Tokens
+pub mod Defining
+pub mod Waiting
+pub mod Scopes
+pub mod Numbering
+pub mod Resolving
+pub mod Shown
+pub mod Levels
+pub mod Unstarted

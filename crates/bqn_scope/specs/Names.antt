@@ -1,7 +1,8 @@
 -- Lists of names without repeats, in the order in which the names came.
-use Rattle.std.specs.Prelude.{◌≡◌, ℕ, nat_eq, nat_lt, if◌then◌else◌, List, [], ◌∷◌, ◌++◌, length, map, position, Option, Some, None, Result, Ok, Err, Vec}
-use Rattle.std.specs.List.{IsDistinct}
+use Rattle.std.specs.Prelude.{◌≡◌, ℕ, nat_eq, nat_lt, if◌then◌else◌, List, [], ◌∷◌, ◌++◌, length, map, position, Option, Some, None, Result, Ok, Err, Vec, IsTrue}
+use Rattle.std.specs.List.{IsDistinct, AllByRecursion, list_all}
 use Rattle.std.specs.Cmp.Lexicographic.{pointwise}
+use Rattle.bqn_base.specs.Names.{is_name_character}
 use Rattle.bqn_scope.specs.declared.names.NamesError.{NamesError}
 use Rattle.bqn_scope.specs.declared.names.NamesError.TheVariants.{Full, Memory}
 
@@ -12,6 +13,10 @@ spelled keys = map (λ key. key.items) keys
 -- no two keys spell the same name
 abbrev pub AreDistinct : {A : Type 0} → List (Vec ℕ A) → Type 0
 AreDistinct keys = IsDistinct (λ key other. pointwise nat_eq key.items other.items) keys
+
+-- all keys are of the characters of names
+abbrev pub AreNames : {A : Type 0} → List (Vec ℕ A) → Type 0
+AreNames keys = AllByRecursion (λ key. IsTrue (list_all is_name_character key.items)) keys
 
 -- the place of a name, if the list holds it
 abbrev pub place_of : List (List ℕ) → List ℕ → Option ℕ

@@ -1,8 +1,9 @@
 ghost use Rattle.std.specs.Prelude.{IsTrue};
 ghost use Rattle.bqn_base.specs.Names.{is_name_character};
 
-use crate::{Names, NamesError};
-use bqn_base::Name;
+use crate::{Names, NamesError, Use, resolve};
+use bqn_base::{Name, Place, Role, Row};
+use bqn_syntax::{Arrow, Expr, Kind, Part, Pattern, Step, Stmt, Token, Tree};
 use std::alloc::Global;
 use std::test::Fail;
 
@@ -61,5 +62,56 @@ fn the_65536th_name_is_refused(rt: HostRuntime) -> Result<(), Fail> {
     assert!(rt; matches!(names.add(&last), Err(NamesError::Full)));
     assert_eq!(rt; names.position(&last), None);
     assert_eq!(rt; names.add(&name_of(alloc, 65534)?)?, 65534);
+    Ok(())
+}
+
+// The name `a` in this column.
+fn word(alloc: Global, column: u32) -> Result<Token, Fail> {
+    Ok(Token {
+        kind: Kind::Word(Name::new(alloc, ['a'].as_slice())?, Role::Subject),
+        place: Place { line: 1, column },
+    })
+}
+
+// The tree of `a←1⋄a`.
+fn program(alloc: Global) -> Result<Tree, Fail> {
+    let one = Token {
+        kind: Kind::Number(1),
+        place: Place { line: 1, column: 3 },
+    };
+    let mut steps = Vec::new(alloc);
+    steps.push(Step::Assign {
+        target: Pattern::Name(word(alloc, 1)?),
+        arrow: Arrow::Define,
+    })?;
+    let mut statements = Vec::new(alloc);
+    statements.push(Stmt::Eval(Expr::Value {
+        last: Some(Part::Leaf(one)),
+        steps: Row::new(steps),
+    }))?;
+    statements.push(Stmt::Eval(Expr::Value {
+        last: Some(Part::Leaf(word(alloc, 5)?)),
+        steps: Row::new(Vec::new(alloc)),
+    }))?;
+    Ok(Tree {
+        statements: Row::new(statements),
+    })
+}
+
+#[test]
+fn a_name_is_defined_and_read(rt: HostRuntime) -> Result<(), Fail> {
+    let alloc = rt.alloc();
+    let so = resolve(alloc, program(alloc)?, &Names::new(alloc))?;
+    let use_at = [1, 5];
+    assert_eq!(rt; so.uses.list().len(), 2);
+    for (found, column) in so.uses.list().iter().zip(use_at) {
+        let wanted = Use {
+            up: 0,
+            slot: 0,
+            place: Place { line: 1, column },
+        };
+        assert_eq!(rt; *found, wanted);
+    }
+    assert_eq!(rt; so.bodies.list().len(), 1);
     Ok(())
 }

@@ -1,9 +1,8 @@
-use Rattle.std.proofs.Common.{◌∙◌, List, ap, sym, Vec}
+use Rattle.std.proofs.Common.{◌∙◌, ap, sym}
 use Rattle.std.specs.Option.{option_map}
 use Rattle.bqn_syntax.specs.Expressions as expressions
 use Rattle.bqn_syntax.specs.Parsing as parsing
 use Rattle.bqn_syntax.specs.Plain.{expr_of}
-use Rattle.bqn_parse.specs.declared.item.Item.{Item}
 use Rattle.bqn_parse.specs.Views.{items_of}
 use Rattle.bqn_parse.specs.Walking.{level_shown}
 use Rattle.bqn_parse.proofs.Walking.{well-made}
@@ -13,5 +12,5 @@ pub returns-in-Some : goal.returns-in-Some
 returns-in-Some c =
     let level = c.args.level.now in
     let tokens = c.args.tokens.now in
-    let e = ap (option_map expr_of) (sym c.in-Some.is) ∙ c.in_ok-piece_expression.ensures ∙ ap (λ (xs : List Item). expressions.piece_expression (items_of xs)) (c.new-2.ensures ∙ ap (λ (v : Vec Item _). v.items) c.replace-items.ensures.value) in
+    let e = ap (option_map expr_of) (sym c.in-Some.is) ∙ c.in_ok-piece_expression.ensures in
     well-made c.args.place parsing.and_expression (expressions.piece_expression (items_of level.items.items)) (expr_of c.in-Some.e) (level_shown tokens level) (level_shown tokens c.and_expression.new.self) c.and_expression.result e (c.and_expression.ensures tokens)

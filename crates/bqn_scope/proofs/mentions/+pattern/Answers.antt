@@ -1,0 +1,12 @@
+use Rattle.std.proofs.Common.{◌≡◌, map, reverse, drop}
+use Rattle.bqn_syntax.specs.Mentions.{exprs_mentions, parts_mentions, steps_mentions, uses_mentions, deriveds_mentions, target_mentions, patterns_mentions, stmts_mentions, scopes_of}
+use Rattle.bqn_syntax.specs.Plain.{expr_of, part_of, step_of, derived_of, use_of, stmt_of, pattern_of, exprs, parts, patterns, steps, deriveds, uses, stmts, bodies, body_of}
+use Rattle.bqn_scope.specs.Shown.{how_shown, mentions_backward, scopes_backward}
+use Rattle.std.proofs.Common.{◌∙◌, ap}
+use Rattle.std.proofs.lemmas.Iterator.Adapters.{YieldsList-from_rev_slice}
+use Rattle.std.proofs.lemmas.Iterator.Consumers.{YieldsList-end}
+use Rattle.bqn_scope.proofs.Backward.{all-yielded}
+use Rattle.bqn_scope.proofs.mentions.+pattern.Goals as goal
+
+pub patterns-returns : goal.patterns-returns
+patterns-returns t c = c.loop-q.invariant ∙ ap (λ xs. patterns_mentions (how_shown c.args.how) (patterns xs) (mentions_backward c.args.mentions.now.items)) (all-yielded pattern_of c.args.all.now c.loop-q.yielded (YieldsList-end (YieldsList-from_rev_slice c.args.all.now cc) c.loop-q.yielded _ c.loop-q.yielded_by _ _ c.in-None.is c.next.ensures.steps).0)

@@ -1,0 +1,12 @@
+use Rattle.std.proofs.Common.{◌≡◌, map, reverse, drop}
+use Rattle.bqn_syntax.specs.Order.{exprs_order, parts_order, steps_order, uses_order, deriveds_order, targets_order, patterns_order, stmts_order}
+use Rattle.bqn_syntax.specs.Plain.{expr_of, part_of, step_of, derived_of, use_of, stmt_of, pattern_of, exprs, parts, patterns, steps, deriveds, uses, stmts}
+use Rattle.bqn_scope.specs.Shown.{how_shown, events_backward}
+use Rattle.std.proofs.Common.{◌∙◌, ap}
+use Rattle.std.proofs.lemmas.Iterator.Adapters.{YieldsList-from_rev_slice}
+use Rattle.std.proofs.lemmas.Iterator.Consumers.{YieldsList-end}
+use Rattle.bqn_scope.proofs.Backward.{all-yielded}
+use Rattle.bqn_scope.proofs.order.statements.Goals as goal
+
+pub returns : goal.returns
+returns c = c.loop-s.invariant ∙ ap (λ xs. stmts_order (stmts xs) (events_backward c.args.events.now.items)) (all-yielded stmt_of c.args.all.now c.loop-s.yielded (YieldsList-end (YieldsList-from_rev_slice c.args.all.now cc) c.loop-s.yielded _ c.loop-s.yielded_by _ _ c.in-None.is c.next.ensures.steps).0)
