@@ -1,10 +1,9 @@
 -- The definitions of a body, one mention after another.
-use Rattle.std.proofs.Common.{◌≡◌, ℕ, suc, Bool, true, false, not, if◌then◌else◌, List, [], ◌∷◌, ◌++◌, map, length, get_or, drop, drop-cons, add-one, ◌<◌, ◌≤◌, ◌+◌, refl, sym, ap, ◌∙◌}
+use Rattle.std.proofs.Common.{◌≡◌, ℕ, suc, Bool, true, false, not, if◌then◌else◌, List, [], ◌∷◌, ◌++◌, length, get_or, drop, drop-cons, add-one, ◌<◌, ◌≤◌, ◌+◌, refl, sym, ap, ◌∙◌}
 use Rattle.std.specs.Prelude.{◌&&◌, ◌||◌}
 use Rattle.std.proofs.lemmas.List.{append_assoc, append-nil, drop_all}
 use Rattle.bqn_syntax.specs.declared.token.Token.{Token}
-use Rattle.bqn_syntax.specs.Order.{How}
-use Rattle.bqn_syntax.specs.Mentions.{Mention, Named, Special, System, Inner, Mentions, no_mentions, and_mentions}
+use Rattle.bqn_syntax.specs.Mentions.{Mention, Named, Special, System, Inner, Mentions, and_mentions}
 use Rattle.bqn_syntax.specs.Scope.{name_of, has, same_name, defines, definitions}
 use Rattle.bqn_scope.specs.declared.mention.Mention.{Mention as CodeMention}
 use Rattle.bqn_scope.specs.Shown.{mention_of, mentions_shown}

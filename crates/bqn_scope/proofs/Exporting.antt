@@ -1,9 +1,8 @@
 -- The names of bodies, one after another.
-use Rattle.std.proofs.Common.{◌≡◌, ℕ, suc, Bool, true, false, not, if◌then◌else◌, List, [], ◌∷◌, ◌++◌, map, length, get_or, drop, drop-cons, add-one, Option, Some, None, ◌<◌, ◌≤◌, ◌+◌, refl, sym, ap, ◌∙◌}
+use Rattle.std.proofs.Common.{◌≡◌, ℕ, suc, Bool, true, false, not, if◌then◌else◌, List, [], ◌∷◌, ◌++◌, length, get_or, drop, drop-cons, add-one, ◌<◌, ◌+◌, refl, sym, ap, ◌∙◌}
 use Rattle.std.specs.Prelude.{◌&&◌}
-use Rattle.std.proofs.lemmas.List.{append_assoc, append-nil, map-append, length-map, drop_all}
-use Rattle.bqn_syntax.specs.Order.{How}
-use Rattle.bqn_syntax.specs.Mentions.{Mention, Named, Special, System, Inner, Mentions, no_mentions, and_mentions}
+use Rattle.std.proofs.lemmas.List.{map-append, length-map}
+use Rattle.bqn_syntax.specs.Mentions.{Mention, Named, Special, System, Inner, Mentions, and_mentions}
 use Rattle.bqn_syntax.specs.Scope.{name_of, has, place_of}
 use Rattle.bqn_syntax.specs.Bodies.{exports_it, at_slot, exports_of}
 use Rattle.bqn_scope.specs.declared.body_names.BodyNames.{BodyNames}

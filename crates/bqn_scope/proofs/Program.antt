@@ -1,19 +1,17 @@
 -- The bodies and uses of a program, from its mentions and its order.
-use Rattle.std.proofs.Common.{◌≡◌, List, [], ◌∷◌, length, Option, None, Result, Ok, Err, ℕ, refl, sym, ap, ◌∙◌, Vec}
+use Rattle.std.proofs.Common.{◌≡◌, List, [], ◌∷◌, length, None, Result, Ok, ℕ, sym, ap, ◌∙◌, Vec}
 use Rattle.bqn_base.specs.declared.refusal.Refusal.{Refusal}
 use Rattle.bqn_syntax.specs.declared.token.Token.{Token}
 use Rattle.bqn_syntax.specs.Plain.{Stmts}
 use Rattle.bqn_syntax.specs.Order.{How, order_of}
 use Rattle.bqn_syntax.specs.Mentions.{Mentions, no_mentions, stmts_mentions}
-use Rattle.bqn_syntax.specs.Scope.{Use, top_scope, uses_of}
+use Rattle.bqn_syntax.specs.Scope.{top_scope, uses_of}
 use Rattle.bqn_syntax.specs.Bodies.{Resolution, BodyNames, body_names, inside, with_bodies, resolution}
-use Rattle.bqn_scope.specs.declared.error.ScopeError.{ScopeError}
-use Rattle.bqn_scope.specs.declared.error.ScopeError.TheVariants.{Refused, Memory}
 use Rattle.bqn_scope.specs.declared.body_names.BodyNames.{BodyNames as CodeBodyNames}
 use Rattle.bqn_scope.specs.declared.used.Use.{Use as CodeUse}
 use Rattle.bqn_scope.specs.Numbering.{bodies_shown}
 use Rattle.bqn_scope.specs.Scopes.{uses_shown}
-use Rattle.bqn_scope.specs.Resolving.{GivesUses, GivesParts, resolution_of}
+use Rattle.bqn_scope.specs.Resolving.{resolution_of}
 
 -- what these mentions and this order give
 resolution_from : List (List ℕ) → Mentions → List (How × Token) → Result Resolution Refusal

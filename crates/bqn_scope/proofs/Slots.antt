@@ -1,13 +1,13 @@
 -- The slot of a name in the bodies around.
-use Rattle.std.proofs.Common.{◌≡◌, ℕ, zero, suc, Bool, true, false, not, cond, if◌then◌else◌, List, [], ◌∷◌, ◌++◌, map, reverse, length, get_or, take, drop, position, Option, Some, None, Bor, ◌<◌, ◌≤◌, ◌+◌, ◌-◌, refl, sym, ap, ◌∙◌, arith}
-use Rattle.std.specs.Prelude.{nat_lt, nat_eq}
+use Rattle.std.proofs.Common.{◌≡◌, ℕ, zero, suc, Bool, true, false, not, cond, if◌then◌else◌, List, [], ◌∷◌, ◌++◌, map, length, get_or, take, position, Option, Some, None, Bor, ◌<◌, ◌≤◌, ◌+◌, ◌-◌, refl, sym, ap, ◌∙◌, arith}
+use Rattle.std.specs.Prelude.{nat_lt}
 use Rattle.std.specs.List.{position_or_len}
 use Rattle.std.specs.Option.{option_map}
 use Rattle.std.proofs.lemmas.List.{length-map, length-append, reverse-append, take_more, take_all}
-use Rattle.std.proofs.lemmas.Bool.{lt-ltb, le-ltb}
+use Rattle.std.proofs.lemmas.Bool.{lt-ltb}
 use Rattle.std.proofs.lemmas.Bool.Decides.{nat_tests}
 use Rattle.bqn_syntax.specs.declared.token.Token.{Token}
-use Rattle.bqn_syntax.specs.Scope.{Scope, Seen, name_of, names_of, same_name, same_place, is_again, sees, or_outward, outward}
+use Rattle.bqn_syntax.specs.Scope.{Seen, name_of, names_of, same_name, same_place, is_again, sees, or_outward, outward}
 use Rattle.bqn_scope.specs.Names.{place_of}
 use Rattle.bqn_scope.specs.declared.scope.Scope.{Scope as CodeScope}
 use Rattle.bqn_scope.specs.Scopes.{known_in, scope_shown, scopes_around, raised}

@@ -1,14 +1,13 @@
 -- The place of a name, among keys and among the names that they spell.
-use Rattle.std.proofs.Common.{◌≡◌, ℕ, ◌+◌, ◌<◌, ◌≤◌, suc, Bool, true, false, not, cond, if◌then◌else◌, List, [], ◌∷◌, ◌++◌, Option, Some, None, length, position, get_or, Vec, zero, refl, sym, ap, subst, ◌∙◌, arith}
-use Rattle.std.specs.Prelude.{nat_eq, nat_lt, ◌||◌, IsTrue}
-use Rattle.std.specs.List.{AllByRecursion, IsDistinct, position_or_len, list_any, list_all}
+use Rattle.std.proofs.Common.{◌≡◌, ℕ, ◌+◌, ◌<◌, ◌≤◌, suc, Bool, true, false, not, cond, if◌then◌else◌, List, [], ◌∷◌, ◌++◌, Option, Some, None, length, position, Vec, refl, sym, ap, ◌∙◌, arith}
+use Rattle.std.specs.Prelude.{nat_eq, nat_lt, ◌||◌}
+use Rattle.std.specs.List.{AllByRecursion, IsDistinct, position_or_len, list_any}
 use Rattle.std.specs.Cmp.Lexicographic.{pointwise, nat_list_eq_equiv}
 use Rattle.std.proofs.lemmas.List.{length-map}
 use Rattle.std.proofs.lemmas.Bool.{le-ltb, lt-ltb}
 use Rattle.std.proofs.lemmas.Bool.Decides.{nat_tests}
-use Rattle.bqn_base.specs.Names.{is_name_character}
 use Rattle.bqn_syntax.specs.Scope.{has}
-use Rattle.bqn_scope.specs.Names.{AreDistinct, AreNames, spelled, place_of, with_place, added_unless_held, added}
+use Rattle.bqn_scope.specs.Names.{AreDistinct, spelled, place_of, with_place, added_unless_held, added}
 
 one-more : (b a : Bool) (m n : ℕ) → a ≡ nat_lt m n → (b || a) ≡ nat_lt (cond (not b) (1 + m) 0) (suc n)
 one-more true a m n e = sym (lt-ltb 0 (suc n) (omega arith))

@@ -1,5 +1,5 @@
 -- The first step of a value without a last part, by its kind.
-use Rattle.std.proofs.Common.{◌≡◌, ℕ, List, [], ◌∷◌, map, length, Option, Result, Ok, Err, OnOk, refl, sym, ap, ◌∙◌, arith}
+use Rattle.std.proofs.Common.{◌≡◌, List, [], ◌∷◌, map, length, Option, Result, Ok, Err, OnOk, refl, sym, ap, ◌∙◌, arith}
 use Rattle.bqn_syntax.specs.declared.token.Token.{Token}
 use Rattle.bqn_syntax.specs.declared.pattern.Pattern.{Pattern}
 use Rattle.bqn_syntax.specs.declared.tree.Arrow.{Arrow}
@@ -8,7 +8,7 @@ use Rattle.bqn_syntax.specs.declared.tree.Part.{Part}
 use Rattle.bqn_syntax.specs.declared.tree.Step.{Step as CodeStep}
 use Rattle.bqn_syntax.specs.declared.tree.Step.TheVariants as step
 use Rattle.bqn_syntax.specs.Levels.{step-Apply, step-Assign, step-Modify}
-use Rattle.bqn_syntax.specs.Plain.{Steps, and_steps, Step, Apply, Assign, Modify, Value, none, steps, step_of, derived_of}
+use Rattle.bqn_syntax.specs.Plain.{Steps, and_steps, Step, Modify, Value, none, steps, step_of, derived_of}
 use Rattle.bqn_syntax.specs.Order.{How, Changes, expr_order, steps_order, derived_order, leaf_order}
 use Rattle.bqn_scope.specs.Unstarted.{unstarted_order}
 

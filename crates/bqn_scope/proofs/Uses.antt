@@ -1,15 +1,12 @@
 -- The uses of a body, one mention after another.
-use Rattle.std.proofs.Common.{◌≡◌, ℕ, zero, suc, Bool, true, false, cond, List, [], ◌∷◌, ◌++◌, map, reverse, length, get_or, drop, drop-cons, add-one, position, Option, Some, None, Result, Ok, Err, ◌<◌, ◌≤◌, ◌+◌, refl, sym, ap, subst, ◌∙◌, arith}
-use Rattle.std.specs.Prelude.{nat_lt}
-use Rattle.std.specs.List.{list_any, position_or_len}
-use Rattle.std.proofs.lemmas.List.{reverse-append, map-append, length-map}
-use Rattle.std.proofs.lemmas.Bool.Decides.{nat_tests}
-use Rattle.bqn_base.specs.declared.place.Place.{Place}
+use Rattle.std.proofs.Common.{◌≡◌, ℕ, Bool, true, false, cond, List, [], ◌∷◌, ◌++◌, map, length, Some, None, Result, Ok, Err, refl, sym, ap, ◌∙◌, arith}
+use Rattle.std.specs.List.{list_any}
+use Rattle.std.proofs.lemmas.List.{reverse-append, map-append}
 use Rattle.bqn_base.specs.declared.refusal.Refusal.{Refusal}
 use Rattle.bqn_base.specs.declared.refusal.Refusal.TheVariants as refusal
 use Rattle.bqn_syntax.specs.declared.token.Token.{Token}
 use Rattle.bqn_syntax.specs.Order.{How, Reads, Defines, Exports, Changes, Shows}
-use Rattle.bqn_syntax.specs.Scope.{Scope, Seen, Use, name_of, names_of, same_place, is_again, sees, has, read, define, unless, named, stands_in_block}
+use Rattle.bqn_syntax.specs.Scope.{Scope, Use, name_of, names_of, same_place, is_again, sees, has, read, define, unless, named, stands_in_block}
 use Rattle.bqn_scope.specs.Names.{place_of}
 use Rattle.bqn_scope.specs.declared.error.ScopeError.{ScopeError}
 use Rattle.bqn_scope.specs.declared.error.ScopeError.TheVariants.{Refused, Memory}

@@ -1,13 +1,13 @@
 -- What each mention and body stands for, level by level.
-use Rattle.std.proofs.Common.{◌≡◌, List, map, rules}
+use Rattle.std.proofs.Common.{◌≡◌, List, rules}
 use denote.Ref.{Bor}
 use Rattle.bqn_syntax.specs.declared.token.Token.{Token}
 use Rattle.bqn_syntax.specs.Mentions as plain
 use Rattle.bqn_scope.specs.declared.mention.How.{How}
-use Rattle.bqn_scope.specs.declared.mention.Mention.{Mention as CodeMention, the_lemmas}
+use Rattle.bqn_scope.specs.declared.mention.Mention.{the_lemmas}
 use Rattle.bqn_scope.specs.declared.mention.Mention.TheVariants as mention
 use Rattle.bqn_scope.specs.declared.mention.Own.{Own as CodeOwn, out-Own}
-use Rattle.bqn_scope.specs.Shown.{Own, how_shown, mention_of, own_of, mentions_shown, events_shown, scopes_shown}
+use Rattle.bqn_scope.specs.Shown.{how_shown, mention_of, own_of, mentions_shown, events_shown, scopes_shown}
 
 pub mention-Named : (h : How) (t : Bor Token) → mention_of (mention.Named h t) ≡ plain.Named (how_shown h) t.now
 mention-Named h t = search (rules, the_lemmas)

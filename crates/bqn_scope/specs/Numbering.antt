@@ -1,5 +1,5 @@
 -- The names of bodies, and what is written of them.
-use Rattle.std.specs.Prelude.{◌≡◌, ℕ, Bool, not, ◌&&◌, if◌then◌else◌, List, [], map, Result, Ok, Err}
+use Rattle.std.specs.Prelude.{ℕ, not, ◌&&◌, if◌then◌else◌, List, [], map}
 use Rattle.bqn_syntax.specs.Mentions.{Mention, Named, Mentions}
 use Rattle.bqn_syntax.specs.Scope.{name_of, has, place_of}
 use Rattle.bqn_syntax.specs.Bodies as bodies

@@ -1,5 +1,5 @@
 -- Tokens behind references, and their places as keys.
-use Rattle.std.specs.Prelude.{ℕ, Bool, true, false, nat_eq, ◌&&◌, List, [], ◌∷◌, map, Option, Some, None}
+use Rattle.std.specs.Prelude.{ℕ, Bool, nat_eq, ◌&&◌, List, [], map, Option, Some, None}
 use denote.Ref.{Bor}
 use Rattle.bqn_syntax.specs.declared.token.Token.{Token}
 use Rattle.bqn_syntax.specs.Scope.{name_of}

@@ -1,7 +1,6 @@
-use Rattle.std.proofs.Common.{◌≡◌, map, reverse, drop}
-use Rattle.bqn_syntax.specs.Mentions.{exprs_mentions, parts_mentions, steps_mentions, uses_mentions, deriveds_mentions, target_mentions, patterns_mentions, stmts_mentions, scopes_of}
-use Rattle.bqn_syntax.specs.Plain.{expr_of, part_of, step_of, derived_of, use_of, stmt_of, pattern_of, exprs, parts, patterns, steps, deriveds, uses, stmts, bodies, body_of}
-use Rattle.bqn_scope.specs.Shown.{how_shown, mentions_backward, scopes_backward}
+use Rattle.bqn_syntax.specs.Mentions.{exprs_mentions, parts_mentions, uses_mentions, deriveds_mentions, stmts_mentions, scopes_of}
+use Rattle.bqn_syntax.specs.Plain.{expr_of, part_of, derived_of, use_of, stmt_of, exprs, parts, deriveds, uses, stmts, bodies, body_of}
+use Rattle.bqn_scope.specs.Shown.{mentions_backward}
 use Rattle.std.proofs.Common.{◌∙◌, ap}
 use Rattle.std.proofs.lemmas.Iterator.Adapters.{YieldsList-from_rev_slice}
 use Rattle.std.proofs.lemmas.Iterator.Consumers.{YieldsList-end}

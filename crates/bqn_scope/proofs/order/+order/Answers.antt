@@ -1,7 +1,6 @@
-use Rattle.std.proofs.Common.{◌≡◌, map, reverse, drop}
-use Rattle.bqn_syntax.specs.Order.{exprs_order, parts_order, steps_order, uses_order, deriveds_order, targets_order, patterns_order, stmts_order}
-use Rattle.bqn_syntax.specs.Plain.{expr_of, part_of, step_of, derived_of, use_of, stmt_of, pattern_of, exprs, parts, patterns, steps, deriveds, uses, stmts}
-use Rattle.bqn_scope.specs.Shown.{how_shown, events_backward}
+use Rattle.bqn_syntax.specs.Order.{exprs_order, parts_order, steps_order}
+use Rattle.bqn_syntax.specs.Plain.{expr_of, part_of, step_of, derived_of, exprs, parts, steps}
+use Rattle.bqn_scope.specs.Shown.{events_backward}
 use Rattle.std.proofs.Common.{◌∙◌, ap}
 use Rattle.std.proofs.lemmas.Iterator.Adapters.{YieldsList-from_rev_slice}
 use Rattle.std.proofs.lemmas.Iterator.Consumers.{YieldsList-end}

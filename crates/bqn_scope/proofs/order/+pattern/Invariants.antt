@@ -1,6 +1,6 @@
-use Rattle.std.proofs.Common.{◌≡◌, map, reverse, drop}
-use Rattle.bqn_syntax.specs.Order.{exprs_order, parts_order, steps_order, uses_order, deriveds_order, targets_order, patterns_order, stmts_order}
-use Rattle.bqn_syntax.specs.Plain.{expr_of, part_of, step_of, derived_of, use_of, stmt_of, pattern_of, exprs, parts, patterns, steps, deriveds, uses, stmts}
+use Rattle.std.proofs.Common.{◌≡◌, map, reverse}
+use Rattle.bqn_syntax.specs.Order.{patterns_order}
+use Rattle.bqn_syntax.specs.Plain.{pattern_of, patterns}
 use Rattle.bqn_scope.specs.Shown.{how_shown, events_backward}
 use Rattle.bqn_scope.proofs.order.+pattern.Given as goal
 
