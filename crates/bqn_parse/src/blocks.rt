@@ -7,6 +7,7 @@ ghost use Rattle.bqn_parse.specs.Marking.{brief, brief_header};
 ghost use Rattle.bqn_parse.specs.Views.{element_of};
 ghost use Rattle.bqn_parse.specs.Walking.{Made};
 
+use crate::ends::shrunk;
 use crate::error::ParseError;
 use crate::item::Element;
 use crate::marks::{has_predicate, in_stmts, since_predicate};
@@ -93,7 +94,7 @@ pub fn block(alloc: Global, place: Place, all: Vec<BodyTree>) -> Result<Element,
             let block = BlockTree {
                 place,
                 class,
-                bodies: Row::new(all),
+                bodies: Row::new(shrunk(all)),
             };
             Ok(Element::Part(Part::Block(Boxed::new(alloc, block)?)))
         }

@@ -8,6 +8,7 @@ ghost use Rattle.bqn_parse.specs.Views.{element_of};
 ghost use Rattle.bqn_parse.specs.Walking.{level_shown, walk_shown, Made, Moves};
 
 use crate::blocks::block;
+use crate::ends::shrunk;
 use crate::error::ParseError;
 use crate::item::{Element, Item};
 use crate::judge::end;
@@ -55,7 +56,7 @@ fn merge(place: Place, pieces: Vec<Expr>) -> Result<Element, ParseError>
     if pieces.is_empty() {
         return Err(ParseError::Refused(Refusal::Grammar(place)));
     }
-    Ok(Element::Part(Part::Merge(Row::new(pieces))))
+    Ok(Element::Part(Part::Merge(Row::new(shrunk(pieces)))))
 }
 
 /// The block that a level is; its last body ends.
@@ -79,7 +80,7 @@ fn whole(alloc: Global, place: Place, level: &mut Level) -> Result<Element, Pars
         }
         Inside::List => {
             let pieces = mem::replace(&mut level.expressions, Vec::new(alloc));
-            Ok(Element::Part(Part::List(Row::new(pieces))))
+            Ok(Element::Part(Part::List(Row::new(shrunk(pieces)))))
         }
         Inside::Merge => {
             let pieces = mem::replace(&mut level.expressions, Vec::new(alloc));
@@ -87,7 +88,7 @@ fn whole(alloc: Global, place: Place, level: &mut Level) -> Result<Element, Pars
         }
         Inside::Pattern | Inside::HeaderPattern => {
             let pieces = mem::replace(&mut level.targets, Vec::new(alloc));
-            Ok(Element::List(Pattern::List(Row::new(pieces))))
+            Ok(Element::List(Pattern::List(Row::new(shrunk(pieces)))))
         }
         Inside::Block => whole_block(alloc, level),
         Inside::Program => Err(ParseError::Refused(Refusal::Bracket(place))),

@@ -33,3 +33,12 @@ pub fn with_room<T: Drop>(alloc: Global, room: usize) -> Result<Vec<T>, Memory>
         Err(_) => Err(Memory),
     }
 }
+
+/// The list, with no room to spare.
+pub fn shrunk<T>(list: Vec<T>) -> Vec<T>
+    ensures { result.items ≡ list.items }
+{
+    let mut list = list;
+    list.shrink_to_fit();
+    list
+}

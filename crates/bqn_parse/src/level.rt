@@ -6,6 +6,7 @@ ghost use Rattle.bqn_syntax.specs.declared.token.Token.{Token};
 ghost use Rattle.bqn_parse.specs.Views.{item_of};
 ghost use Rattle.bqn_parse.specs.Walking.{level_shown, Moves};
 
+use crate::ends::shrunk;
 use crate::error::ParseError;
 use crate::item::Item;
 use bqn_base::{Memory, Place, Row};
@@ -134,7 +135,7 @@ impl Level {
         self.items.clear();
         let body = BodyTree {
             header,
-            statements: Row::new(statements),
+            statements: Row::new(shrunk(statements)),
         };
         match self.done.push(body) {
             Ok(()) => Ok(()),

@@ -185,11 +185,14 @@ pub fn next_step(left: &mut Reading) -> Next
     }
 }
 
-/// So many steps are to be expected where these units are left: most steps take two.
-fn room_for(left: &Reading) -> usize {
-    match &left.next {
-        None => 1,
-        Some(_) => left.rest.len() / 2 + 2,
+/// So many steps are to be expected from this one on, where these units are left: most take two.
+fn room_for(first: &Next, left: &Reading) -> usize {
+    match first {
+        Next::End | Next::Wrong => 0,
+        Next::Step(_) => match &left.next {
+            None => 1,
+            Some(_) => left.rest.len() / 2 + 2,
+        },
     }
 }
 
@@ -217,6 +220,6 @@ fn steps_onto(done: Vec<Step>, first: Next, left: &mut Reading) -> Result<Option
 pub fn steps(alloc: Global, first: Next, left: &mut Reading) -> Result<Option<Row<Step>>, Memory>
     ensures { IfOk result (λ all. option_map steps_shown all ≡ next_shown first (reading_shown left.old)) }
 {
-    let room = with_room(alloc, room_for(left))?;
+    let room = with_room(alloc, room_for(&first, left))?;
     steps_onto(room, first, left)
 }

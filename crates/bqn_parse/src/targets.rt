@@ -7,7 +7,7 @@ ghost use Rattle.bqn_parse.specs.Leftward.{reading_shown};
 ghost use Rattle.bqn_parse.specs.Trains.{aimed_shown, aims_left};
 ghost use Rattle.bqn_parse.specs.Views.{backward, unit_shown};
 
-use crate::ends::pushed;
+use crate::ends::{pushed, shrunk};
 use crate::named::{named, single};
 use crate::reading::{Reading, read};
 use crate::unit::Unit;
@@ -99,7 +99,7 @@ pub fn targets(
             Aimed::All(found) => {
                 let mut found = found;
                 found.reverse();
-                return Ok(Some(Row::new(found)));
+                return Ok(Some(Row::new(shrunk(found))));
             }
             Aimed::Wrong => return Ok(None),
             Aimed::More(found, left) => aimed = next_target(tag, found, left)?,

@@ -134,7 +134,7 @@ fn with_name(alloc: Global, part: Part, name: Token) -> Result<Part, Memory>
             })
         }
         part => {
-            let mut names = Vec::new(alloc);
+            let mut names = with_room(alloc, 1)?;
             push(&mut names, name)?;
             match Boxed::new(alloc, part) {
                 Ok(base) => Ok(Part::Field {

@@ -7,7 +7,7 @@ ghost use Rattle.bqn_parse.specs.declared.train.Parts.TheVariants as collected;
 ghost use Rattle.bqn_parse.specs.Trains.{parts_shown, train_shown, parts_left};
 ghost use Rattle.bqn_parse.specs.Views.{backward};
 
-use crate::ends::pushed;
+use crate::ends::{pushed, shrunk};
 use crate::reading::{Reading, read};
 use crate::targets::targets;
 use crate::unit::Unit;
@@ -105,7 +105,7 @@ fn aimed(alloc: Global, parts: Vec<Derived>, left: Reading) -> Result<Option<Exp
         None => Ok(None),
         Some(targets) => Ok(Some(Expr::Train {
             targets,
-            parts: Row::new(parts),
+            parts: Row::new(shrunk(parts)),
         })),
     }
 }

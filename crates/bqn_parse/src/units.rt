@@ -6,7 +6,7 @@ ghost use Rattle.bqn_parse.specs.declared.units.Binding.TheVariants as binding;
 ghost use Rattle.bqn_parse.specs.Grouping.{binding_shown, grouping_shown};
 ghost use Rattle.bqn_parse.specs.Views.{backward, unit_shown, when};
 
-use crate::ends::push;
+use crate::ends::{push, shrunk};
 use crate::tags::tag_of;
 use crate::unit::Unit;
 use bqn_base::{Memory, Row};
@@ -38,7 +38,7 @@ fn unit_of(first: Part, uses: Vec<ModUse>) -> Unit
     if !uses.is_empty() {
         return Unit::Function(Derived {
             first,
-            uses: Row::new(uses),
+            uses: Row::new(shrunk(uses)),
         });
     }
     match tag_of(&first) {
