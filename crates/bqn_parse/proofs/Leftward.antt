@@ -1,5 +1,5 @@
 -- Units that are read leftward.
-use Rattle.std.proofs.Common.{◌≡◌, ◌+◌, List, [], ◌∷◌, ◌++◌, length, Option, Some, None, refl, ap, ◌∙◌}
+use Rattle.std.proofs.Common.{◌≡◌, ◌+◌, List, [], ◌∷◌, ◌++◌, length, Option, Some, None, refl, ap}
 use Rattle.bqn_syntax.specs.declared.tree.Step.{Step}
 use Rattle.bqn_syntax.specs.Expressions.{more}
 use Rattle.bqn_syntax.specs.Plain.{Steps, no_steps, and_steps, step_of}
