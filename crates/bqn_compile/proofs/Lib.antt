@@ -1,0 +1,4 @@
+pub mod Compiling
+mod Samples
+mod BodySamples
+mod RunSamples
