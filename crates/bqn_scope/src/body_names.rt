@@ -7,7 +7,7 @@ ghost use Rattle.bqn_scope.specs.Shown.{how_shown, mention_of, mentions_shown};
 ghost use Rattle.bqn_scope.specs.Tokens.{names_of_tokens, tokens_shown};
 
 use crate::defined::{Defined, name_of};
-use crate::error::ScopeError;
+use crate::error::NoMemory;
 use crate::mention::{How, Mention};
 use crate::scope::{definitions_in, slot};
 use crate::spellings::Spellings;
@@ -41,7 +41,7 @@ fn slots(
     outer: &Spellings,
     in_block: bool,
     defined: &Defined,
-) -> Result<Vec<Name>, ScopeError>
+) -> Result<Vec<Name>, NoMemory>
     ensures { IfOk result (λ names. names.items ≡ known_in outer.now in_block ++ names_of_tokens (tokens_shown defined.now.places.tokens.items)) }
 {
     let mut names = Vec::new(alloc);
@@ -62,7 +62,7 @@ fn export(
     exported: &mut Spellings,
     exports: &mut Vec<(Name, u32)>,
     mention: &Mention,
-) -> Result<(), ScopeError>
+) -> Result<(), NoMemory>
     requires { exported.old ≡ exported_names exports.old.items }
     ensures names { OnOk result (exported.new ≡ exported_names exports.new.items) }
     ensures exports { OnOk result (exports.new.items ≡ exporting (known_in outer.now in_block ++ names_of_tokens (tokens_shown defined.now.places.tokens.items)) exports.old.items (mention_of mention.now)) }
@@ -77,7 +77,7 @@ fn export(
     match slot(defined, in_block, outer, name) {
         Ok(Some(place)) => {
             let Ok(found) = u32::try_from(place) else {
-                return Err(ScopeError::Memory);
+                return Err(NoMemory);
             };
             exported.push(name)?;
             let copy = Name::new(alloc, name)?;
@@ -85,7 +85,7 @@ fn export(
             Ok(())
         }
         Ok(None) => Ok(()),
-        Err(_) => Err(ScopeError::Memory),
+        Err(_) => Err(NoMemory),
     }
 }
 
@@ -97,7 +97,7 @@ fn exports(
     in_block: bool,
     defined: &Defined,
     mentions: &[Mention],
-) -> Result<Vec<(Name, u32)>, ScopeError>
+) -> Result<Vec<(Name, u32)>, NoMemory>
     ensures { IfOk result (λ exports. exports.items ≡ exports_of (known_in outer.now in_block ++ names_of_tokens (tokens_shown defined.now.places.tokens.items)) (mentions_shown mentions.now) []) }
 {
     let mut exported = Spellings::new(alloc);
@@ -124,7 +124,7 @@ pub fn body_names(
     in_block: bool,
     parent: u32,
     mentions: &[Mention],
-) -> Result<BodyNames, ScopeError>
+) -> Result<BodyNames, NoMemory>
     ensures { IfOk result (λ names. body_shown names ≡ body_with parent (known_in outer.now in_block ++ names_of_tokens (definitions (known_in outer.now in_block) (mentions_shown mentions.now))) (mentions_shown mentions.now)) }
 {
     let defined = definitions_in(alloc, outer, in_block, mentions)?;

@@ -5,7 +5,7 @@ ghost use Rattle.bqn_scope.specs.Tokens.{names_of_tokens, tokens_shown};
 ghost use Rattle.bqn_scope.specs.Waiting.{early_with, kept, to_come};
 
 use crate::defined::{Defined, defines, name_of};
-use crate::error::ScopeError;
+use crate::error::NoMemory;
 use crate::mention::Event;
 use bqn_syntax::Token;
 use std::alloc::Global;
@@ -40,7 +40,7 @@ fn meet<'a>(
     waiting: &mut Vec<bool>,
     early: &mut Vec<&'a Token>,
     event: &Event<'a>,
-) -> Result<(), ScopeError>
+) -> Result<(), NoMemory>
     requires { length waiting.old.items ≡ length (tokens_shown defined.now.places.tokens.items) }
     ensures room { length waiting.new.items ≡ length (tokens_shown defined.now.places.tokens.items) }
     ensures waiting { OnOk result (kept waiting.new.items (tokens_shown defined.now.places.tokens.items) ≡ to_come (kept waiting.old.items (tokens_shown defined.now.places.tokens.items)) (event_shown event.now)) }
@@ -63,7 +63,7 @@ pub fn too_early<'a>(
     alloc: Global,
     defined: &Defined<'a>,
     order: &[Event<'a>],
-) -> Result<Vec<&'a Token>, ScopeError>
+) -> Result<Vec<&'a Token>, NoMemory>
     ensures { IfOk result (λ early. tokens_shown early.items ≡ too_early (tokens_shown defined.now.places.tokens.items) (events_shown order.now)) }
 {
     let mut waiting = vec![in alloc; true; defined.places.tokens.len()]?;

@@ -34,3 +34,39 @@ impl From<Memory> for ScopeError {
         ScopeError::Memory
     }
 }
+
+impl From<NoMemory> for ScopeError {
+    ghost from_gives = { λ _ given. given ≡ error.Memory };
+
+    fn from(_error: NoMemory) -> ScopeError {
+        ScopeError::Memory
+    }
+}
+
+/// Memory is wanting.
+#[derive(Clone, Copy, Debug, PartialEq, Eq)]
+pub struct NoMemory;
+
+impl From<AllocError> for NoMemory {
+    ghost from_gives = { λ _ given. given ≡ record {} };
+
+    fn from(_error: AllocError) -> NoMemory {
+        NoMemory
+    }
+}
+
+impl<T: Drop> From<AllocFailed<T>> for NoMemory {
+    ghost from_gives = { λ _ given. given ≡ record {} };
+
+    fn from(_error: AllocFailed<T>) -> NoMemory {
+        NoMemory
+    }
+}
+
+impl From<Memory> for NoMemory {
+    ghost from_gives = { λ _ given. given ≡ record {} };
+
+    fn from(_error: Memory) -> NoMemory {
+        NoMemory
+    }
+}

@@ -4,7 +4,7 @@ ghost use Rattle.bqn_syntax.specs.Mentions.{leaf_mention, expr_mentions, part_me
 ghost use Rattle.bqn_syntax.specs.Plain.{expr_of, part_of, step_of, derived_of, use_of, stmt_of, pattern_of, header_of, body_of, exprs, parts, patterns, steps, deriveds, uses, stmts, bodies};
 ghost use Rattle.bqn_scope.specs.Shown.{how_shown, mentions_backward, mentions_shown, scopes_shown, own_of, own_shown};
 
-use crate::error::ScopeError;
+use crate::error::NoMemory;
 use crate::mention::{How, Mention, Own};
 use crate::order::{by_arrow, order_of};
 use bqn_base::Row;
@@ -15,7 +15,7 @@ use std::alloc::Global;
 
 /// Puts a name in front of mentions that stand from the last to the first, as each function here does.
 #[tactic(auto, using(bqn_syntax::specs::Levels::levels, crate::specs::Levels::levels, crate::proofs::Backward::backward_laws))]
-fn leaf<'a>(mentions: &mut Vec<Mention<'a>>, how: How, token: &'a Token) -> Result<(), ScopeError>
+fn leaf<'a>(mentions: &mut Vec<Mention<'a>>, how: How, token: &'a Token) -> Result<(), NoMemory>
     ensures { OnOk result (mentions_backward mentions.new.items ≡ leaf_mention (how_shown how) token.now.kind token.now (mentions_backward mentions.old.items)) }
 {
     match &token.kind {
@@ -29,7 +29,7 @@ fn leaf<'a>(mentions: &mut Vec<Mention<'a>>, how: How, token: &'a Token) -> Resu
 
 #[cycle(pattern)]
 #[tactic(auto, using(bqn_syntax::specs::Levels::levels, crate::specs::Levels::levels, crate::proofs::Backward::backward_laws))]
-fn pattern<'a>(mentions: &mut Vec<Mention<'a>>, how: How, q: &'a Pattern) -> Result<(), ScopeError>
+fn pattern<'a>(mentions: &mut Vec<Mention<'a>>, how: How, q: &'a Pattern) -> Result<(), NoMemory>
     ensures { OnOk result (mentions_backward mentions.new.items ≡ pattern_mentions (how_shown how) (pattern_of q.now) (mentions_backward mentions.old.items)) }
 {
     match q {
@@ -46,7 +46,7 @@ fn patterns<'a>(
     mentions: &mut Vec<Mention<'a>>,
     how: How,
     all: &'a [Pattern],
-) -> Result<(), ScopeError>
+) -> Result<(), NoMemory>
     ensures { OnOk result (mentions_backward mentions.new.items ≡ patterns_mentions (how_shown how) (patterns (map pattern_of all.now)) (mentions_backward mentions.old.items)) }
 {
     for q in all.iter().rev() {
@@ -56,7 +56,7 @@ fn patterns<'a>(
 }
 
 #[tactic(auto, using(bqn_syntax::specs::Levels::levels, crate::specs::Levels::levels, crate::proofs::Backward::backward_laws))]
-fn targets<'a>(mentions: &mut Vec<Mention<'a>>, all: &'a [(Token, Arrow)]) -> Result<(), ScopeError>
+fn targets<'a>(mentions: &mut Vec<Mention<'a>>, all: &'a [(Token, Arrow)]) -> Result<(), NoMemory>
     ensures { OnOk result (mentions_backward mentions.new.items ≡ target_mentions all.now (mentions_backward mentions.old.items)) }
 {
     for target in all.iter().rev() {
@@ -66,7 +66,7 @@ fn targets<'a>(mentions: &mut Vec<Mention<'a>>, all: &'a [(Token, Arrow)]) -> Re
 }
 
 #[tactic(auto, using(bqn_syntax::specs::Levels::levels, crate::specs::Levels::levels, crate::proofs::Backward::backward_laws))]
-fn header<'a>(mentions: &mut Vec<Mention<'a>>, h: &'a Header) -> Result<(), ScopeError>
+fn header<'a>(mentions: &mut Vec<Mention<'a>>, h: &'a Header) -> Result<(), NoMemory>
     ensures { OnOk result (mentions_backward mentions.new.items ≡ header_mentions (Some (header_of h.now)) (mentions_backward mentions.old.items)) }
 {
     if let Some(q) = &h.right {
@@ -87,7 +87,7 @@ fn header<'a>(mentions: &mut Vec<Mention<'a>>, h: &'a Header) -> Result<(), Scop
 
 #[cycle(mentions)]
 #[tactic(auto, using(bqn_syntax::specs::Levels::levels, crate::specs::Levels::levels, crate::proofs::Backward::backward_laws))]
-fn expr<'a>(alloc: Global, mentions: &mut Vec<Mention<'a>>, e: &'a Expr) -> Result<(), ScopeError>
+fn expr<'a>(alloc: Global, mentions: &mut Vec<Mention<'a>>, e: &'a Expr) -> Result<(), NoMemory>
     ensures { OnOk result (mentions_backward mentions.new.items ≡ expr_mentions (expr_of e.now) (mentions_backward mentions.old.items)) }
 {
     match e {
@@ -116,7 +116,7 @@ fn expr<'a>(alloc: Global, mentions: &mut Vec<Mention<'a>>, e: &'a Expr) -> Resu
 
 #[cycle(mentions)]
 #[tactic(auto, using(bqn_syntax::specs::Levels::levels, crate::specs::Levels::levels, crate::proofs::Backward::backward_laws))]
-fn part<'a>(alloc: Global, mentions: &mut Vec<Mention<'a>>, x: &'a Part) -> Result<(), ScopeError>
+fn part<'a>(alloc: Global, mentions: &mut Vec<Mention<'a>>, x: &'a Part) -> Result<(), NoMemory>
     ensures { OnOk result (mentions_backward mentions.new.items ≡ part_mentions (part_of x.now) (mentions_backward mentions.old.items)) }
 {
     match x {
@@ -137,7 +137,7 @@ fn part<'a>(alloc: Global, mentions: &mut Vec<Mention<'a>>, x: &'a Part) -> Resu
 
 #[cycle(mentions)]
 #[tactic(auto, using(bqn_syntax::specs::Levels::levels, crate::specs::Levels::levels, crate::proofs::Backward::backward_laws))]
-fn step<'a>(alloc: Global, mentions: &mut Vec<Mention<'a>>, s: &'a Step) -> Result<(), ScopeError>
+fn step<'a>(alloc: Global, mentions: &mut Vec<Mention<'a>>, s: &'a Step) -> Result<(), NoMemory>
     ensures { OnOk result (mentions_backward mentions.new.items ≡ step_mentions (step_of s.now) (mentions_backward mentions.old.items)) }
 {
     match s {
@@ -162,7 +162,7 @@ fn derived<'a>(
     alloc: Global,
     mentions: &mut Vec<Mention<'a>>,
     d: &'a Derived,
-) -> Result<(), ScopeError>
+) -> Result<(), NoMemory>
     ensures { OnOk result (mentions_backward mentions.new.items ≡ derived_mentions (derived_of d.now) (mentions_backward mentions.old.items)) }
 {
     uses(alloc, mentions, d.uses.list())?;
@@ -175,7 +175,7 @@ fn modifier<'a>(
     alloc: Global,
     mentions: &mut Vec<Mention<'a>>,
     u: &'a ModUse,
-) -> Result<(), ScopeError>
+) -> Result<(), NoMemory>
     ensures { OnOk result (mentions_backward mentions.new.items ≡ use_mentions (use_of u.now) (mentions_backward mentions.old.items)) }
 {
     match u {
@@ -193,7 +193,7 @@ fn exprs<'a>(
     alloc: Global,
     mentions: &mut Vec<Mention<'a>>,
     all: &'a [Expr],
-) -> Result<(), ScopeError>
+) -> Result<(), NoMemory>
     ensures { OnOk result (mentions_backward mentions.new.items ≡ exprs_mentions (exprs (map expr_of all.now)) (mentions_backward mentions.old.items)) }
 {
     for e in all.iter().rev() {
@@ -208,7 +208,7 @@ fn parts<'a>(
     alloc: Global,
     mentions: &mut Vec<Mention<'a>>,
     all: &'a [Part],
-) -> Result<(), ScopeError>
+) -> Result<(), NoMemory>
     ensures { OnOk result (mentions_backward mentions.new.items ≡ parts_mentions (parts (map part_of all.now)) (mentions_backward mentions.old.items)) }
 {
     for x in all.iter().rev() {
@@ -223,7 +223,7 @@ fn steps_of<'a>(
     alloc: Global,
     mentions: &mut Vec<Mention<'a>>,
     all: &'a [Step],
-) -> Result<(), ScopeError>
+) -> Result<(), NoMemory>
     ensures { OnOk result (mentions_backward mentions.new.items ≡ steps_mentions (steps (map step_of all.now)) (mentions_backward mentions.old.items)) }
 {
     for s in all {
@@ -238,7 +238,7 @@ fn uses<'a>(
     alloc: Global,
     mentions: &mut Vec<Mention<'a>>,
     all: &'a [ModUse],
-) -> Result<(), ScopeError>
+) -> Result<(), NoMemory>
     ensures { OnOk result (mentions_backward mentions.new.items ≡ uses_mentions (uses (map use_of all.now)) (mentions_backward mentions.old.items)) }
 {
     for u in all.iter().rev() {
@@ -253,7 +253,7 @@ fn deriveds<'a>(
     alloc: Global,
     mentions: &mut Vec<Mention<'a>>,
     all: &'a [Derived],
-) -> Result<(), ScopeError>
+) -> Result<(), NoMemory>
     ensures { OnOk result (mentions_backward mentions.new.items ≡ deriveds_mentions (deriveds (map derived_of all.now)) (mentions_backward mentions.old.items)) }
 {
     for d in all.iter().rev() {
@@ -264,7 +264,7 @@ fn deriveds<'a>(
 
 #[cycle(mentions)]
 #[tactic(auto, using(bqn_syntax::specs::Levels::levels, crate::specs::Levels::levels, crate::proofs::Backward::backward_laws))]
-fn stmt<'a>(alloc: Global, mentions: &mut Vec<Mention<'a>>, s: &'a Stmt) -> Result<(), ScopeError>
+fn stmt<'a>(alloc: Global, mentions: &mut Vec<Mention<'a>>, s: &'a Stmt) -> Result<(), NoMemory>
     ensures { OnOk result (mentions_backward mentions.new.items ≡ stmt_mentions (stmt_of s.now) (mentions_backward mentions.old.items)) }
 {
     match s {
@@ -279,7 +279,7 @@ fn statements<'a>(
     alloc: Global,
     mentions: &mut Vec<Mention<'a>>,
     all: &'a [Stmt],
-) -> Result<(), ScopeError>
+) -> Result<(), NoMemory>
     ensures { OnOk result (mentions_backward mentions.new.items ≡ stmts_mentions (stmts (map stmt_of all.now)) (mentions_backward mentions.old.items)) }
 {
     for s in all.iter().rev() {
@@ -290,7 +290,7 @@ fn statements<'a>(
 
 #[cycle(mentions)]
 #[tactic(auto, using(bqn_syntax::specs::Levels::levels, crate::specs::Levels::levels, crate::proofs::Backward::backward_laws))]
-fn bodies<'a>(alloc: Global, all: &'a [BodyTree]) -> Result<Row<Own<'a>>, ScopeError>
+fn bodies<'a>(alloc: Global, all: &'a [BodyTree]) -> Result<Row<Own<'a>>, NoMemory>
     ensures { IfOk result (λ row. scopes_shown row ≡ scopes_of (bodies (map body_of all.now))) }
 {
     let mut owns = Vec::new(alloc);
@@ -304,7 +304,7 @@ fn bodies<'a>(alloc: Global, all: &'a [BodyTree]) -> Result<Row<Own<'a>>, ScopeE
 
 #[cycle(mentions)]
 #[tactic(auto, using(bqn_syntax::specs::Levels::levels, crate::specs::Levels::levels, crate::proofs::Backward::backward_laws))]
-fn body<'a>(alloc: Global, b: &'a BodyTree) -> Result<Own<'a>, ScopeError>
+fn body<'a>(alloc: Global, b: &'a BodyTree) -> Result<Own<'a>, NoMemory>
     ensures { IfOk result (λ own. own_of own ≡ own_shown (body_of b.now)) }
 {
     let mut mentions = Vec::new(alloc);
@@ -322,7 +322,7 @@ fn body<'a>(alloc: Global, b: &'a BodyTree) -> Result<Own<'a>, ScopeError>
 
 /// The mentions of a program's own body, in text order.
 #[tactic(auto, using(bqn_syntax::specs::Levels::levels, crate::specs::Levels::levels, crate::proofs::Backward::backward_laws))]
-pub fn mentions_of<'a>(alloc: Global, body: &'a [Stmt]) -> Result<Vec<Mention<'a>>, ScopeError>
+pub fn mentions_of<'a>(alloc: Global, body: &'a [Stmt]) -> Result<Vec<Mention<'a>>, NoMemory>
     ensures { IfOk result (λ mentions. mentions_shown mentions.items ≡ stmts_mentions (stmts (map stmt_of body.now)) no_mentions) }
 {
     let mut mentions = Vec::new(alloc);

@@ -4,7 +4,7 @@ ghost use Rattle.bqn_scope.specs.Numbering.{bodies_shown};
 ghost use Rattle.bqn_scope.specs.Shown.{mention_of, mentions_shown, scopes_shown};
 
 use crate::body_names::{BodyNames, body_names};
-use crate::error::ScopeError;
+use crate::error::NoMemory;
 use crate::mention::{Mention, Own};
 use crate::spellings::Spellings;
 use std::alloc::Global;
@@ -18,7 +18,7 @@ pub fn inside(
     number: u32,
     mentions: &[Mention],
     found: &mut Vec<BodyNames>,
-) -> Result<(), ScopeError>
+) -> Result<(), NoMemory>
     ensures { OnOk result (bodies_shown found.new.items ≡ inside number (mentions_shown mentions.now) (bodies_shown found.old.items)) }
 {
     'mentions: for mention in mentions {
@@ -36,13 +36,13 @@ fn inside_mention(
     number: u32,
     mention: &Mention,
     found: &mut Vec<BodyNames>,
-) -> Result<(), ScopeError>
+) -> Result<(), NoMemory>
     ensures { OnOk result (bodies_shown found.new.items ≡ inside_mention number (mention_of mention.now) (bodies_shown found.old.items)) }
 {
     match mention {
         Mention::Inner(bodies) => {
             let Ok(first) = u32::try_from(found.len()) else {
-                return Err(ScopeError::Memory);
+                return Err(NoMemory);
             };
             of_block(alloc, outer, number, bodies.list(), found)?;
             inside_block(alloc, outer, first, bodies.list(), found)
@@ -61,14 +61,14 @@ fn inside_block(
     first: u32,
     bodies: &[Own],
     found: &mut Vec<BodyNames>,
-) -> Result<(), ScopeError>
+) -> Result<(), NoMemory>
     ensures { OnOk result (bodies_shown found.new.items ≡ inside_block first (scopes_shown bodies.now) (bodies_shown found.old.items)) }
 {
     let mut number = first;
     'bodies: for own in bodies {
         inside(alloc, outer, number, own.mentions.list(), found)?;
         let Some(next) = number.checked_add(1) else {
-            return Err(ScopeError::Memory);
+            return Err(NoMemory);
         };
         number = next;
     }
@@ -83,7 +83,7 @@ fn of_block(
     parent: u32,
     bodies: &[Own],
     found: &mut Vec<BodyNames>,
-) -> Result<(), ScopeError>
+) -> Result<(), NoMemory>
     ensures { OnOk result (bodies_shown found.new.items ≡ bodies_shown found.old.items ++ of_block parent (scopes_shown bodies.now)) }
 {
     'bodies: for own in bodies {

@@ -5,7 +5,7 @@ ghost use Rattle.bqn_syntax.specs.Plain.{expr_of, part_of, step_of, derived_of, 
 ghost use Rattle.bqn_scope.specs.Shown.{how_shown, events_backward, events_shown};
 ghost use Rattle.bqn_scope.specs.Unstarted.{unstarted_order};
 
-use crate::error::ScopeError;
+use crate::error::NoMemory;
 use crate::mention::{Event, How};
 use bqn_syntax::{Arrow, Derived, Expr, Header, Kind, ModUse, Part, Pattern, Step, Stmt, Token};
 use std::alloc::Global;
@@ -23,7 +23,7 @@ pub fn by_arrow(arrow: Arrow) -> How
 
 /// Puts a name in front of events that stand from the last to the first, as each function here does.
 #[tactic(auto, using(bqn_syntax::specs::Levels::levels, crate::proofs::Backward::backward_laws))]
-fn leaf<'a>(events: &mut Vec<Event<'a>>, how: How, token: &'a Token) -> Result<(), ScopeError>
+fn leaf<'a>(events: &mut Vec<Event<'a>>, how: How, token: &'a Token) -> Result<(), NoMemory>
     ensures { OnOk result (events_backward events.new.items ≡ leaf_order (how_shown how) token.now.kind token.now (events_backward events.old.items)) }
 {
     if let Kind::Word(_, _) = &token.kind {
@@ -34,7 +34,7 @@ fn leaf<'a>(events: &mut Vec<Event<'a>>, how: How, token: &'a Token) -> Result<(
 
 #[cycle(pattern)]
 #[tactic(auto, using(bqn_syntax::specs::Levels::levels, crate::proofs::Backward::backward_laws))]
-fn pattern<'a>(events: &mut Vec<Event<'a>>, how: How, q: &'a Pattern) -> Result<(), ScopeError>
+fn pattern<'a>(events: &mut Vec<Event<'a>>, how: How, q: &'a Pattern) -> Result<(), NoMemory>
     ensures { OnOk result (events_backward events.new.items ≡ pattern_order (how_shown how) (pattern_of q.now) (events_backward events.old.items)) }
 {
     match q {
@@ -47,7 +47,7 @@ fn pattern<'a>(events: &mut Vec<Event<'a>>, how: How, q: &'a Pattern) -> Result<
 
 #[cycle(pattern)]
 #[tactic(auto, using(bqn_syntax::specs::Levels::levels, crate::proofs::Backward::backward_laws))]
-fn patterns<'a>(events: &mut Vec<Event<'a>>, how: How, all: &'a [Pattern]) -> Result<(), ScopeError>
+fn patterns<'a>(events: &mut Vec<Event<'a>>, how: How, all: &'a [Pattern]) -> Result<(), NoMemory>
     ensures { OnOk result (events_backward events.new.items ≡ patterns_order (how_shown how) (patterns (map pattern_of all.now)) (events_backward events.old.items)) }
 {
     for q in all.iter().rev() {
@@ -57,7 +57,7 @@ fn patterns<'a>(events: &mut Vec<Event<'a>>, how: How, all: &'a [Pattern]) -> Re
 }
 
 #[tactic(auto, using(bqn_syntax::specs::Levels::levels, crate::proofs::Backward::backward_laws))]
-fn targets<'a>(events: &mut Vec<Event<'a>>, all: &'a [(Token, Arrow)]) -> Result<(), ScopeError>
+fn targets<'a>(events: &mut Vec<Event<'a>>, all: &'a [(Token, Arrow)]) -> Result<(), NoMemory>
     ensures { OnOk result (events_backward events.new.items ≡ targets_order all.now (events_backward events.old.items)) }
 {
     for target in all {
@@ -68,7 +68,7 @@ fn targets<'a>(events: &mut Vec<Event<'a>>, all: &'a [(Token, Arrow)]) -> Result
 
 #[cycle(order)]
 #[tactic(auto, using(bqn_syntax::specs::Levels::levels, crate::proofs::Backward::backward_laws, crate::proofs::Unstarted::unstarted_laws))]
-fn expr<'a>(events: &mut Vec<Event<'a>>, e: &'a Expr) -> Result<(), ScopeError>
+fn expr<'a>(events: &mut Vec<Event<'a>>, e: &'a Expr) -> Result<(), NoMemory>
     ensures { OnOk result (events_backward events.new.items ≡ expr_order (expr_of e.now) (events_backward events.old.items)) }
 {
     match e {
@@ -98,7 +98,7 @@ fn expr<'a>(events: &mut Vec<Event<'a>>, e: &'a Expr) -> Result<(), ScopeError>
 
 #[cycle(order)]
 #[tactic(auto, using(bqn_syntax::specs::Levels::levels, crate::proofs::Backward::backward_laws, crate::proofs::Unstarted::unstarted_laws))]
-fn unstarted<'a>(events: &mut Vec<Event<'a>>, all: &'a [Step]) -> Result<(), ScopeError>
+fn unstarted<'a>(events: &mut Vec<Event<'a>>, all: &'a [Step]) -> Result<(), NoMemory>
     ensures { OnOk result (events_backward events.new.items ≡ unstarted_order (steps (map step_of all.now)) (events_backward events.old.items)) }
 {
     let Some((first, rest)) = all.split_first() else {
@@ -117,7 +117,7 @@ fn unstarted<'a>(events: &mut Vec<Event<'a>>, all: &'a [Step]) -> Result<(), Sco
 
 #[cycle(order)]
 #[tactic(auto, using(bqn_syntax::specs::Levels::levels, crate::proofs::Backward::backward_laws, crate::proofs::Unstarted::unstarted_laws))]
-fn part<'a>(events: &mut Vec<Event<'a>>, x: &'a Part) -> Result<(), ScopeError>
+fn part<'a>(events: &mut Vec<Event<'a>>, x: &'a Part) -> Result<(), NoMemory>
     ensures { OnOk result (events_backward events.new.items ≡ part_order (part_of x.now) (events_backward events.old.items)) }
 {
     match x {
@@ -133,7 +133,7 @@ fn part<'a>(events: &mut Vec<Event<'a>>, x: &'a Part) -> Result<(), ScopeError>
 
 #[cycle(order)]
 #[tactic(auto, using(bqn_syntax::specs::Levels::levels, crate::proofs::Backward::backward_laws, crate::proofs::Unstarted::unstarted_laws))]
-fn step<'a>(events: &mut Vec<Event<'a>>, s: &'a Step) -> Result<(), ScopeError>
+fn step<'a>(events: &mut Vec<Event<'a>>, s: &'a Step) -> Result<(), NoMemory>
     ensures { OnOk result (events_backward events.new.items ≡ step_order (step_of s.now) (events_backward events.old.items)) }
 {
     match s {
@@ -153,7 +153,7 @@ fn step<'a>(events: &mut Vec<Event<'a>>, s: &'a Step) -> Result<(), ScopeError>
 
 #[cycle(order)]
 #[tactic(auto, using(bqn_syntax::specs::Levels::levels, crate::proofs::Backward::backward_laws, crate::proofs::Unstarted::unstarted_laws))]
-fn derived<'a>(events: &mut Vec<Event<'a>>, d: &'a Derived) -> Result<(), ScopeError>
+fn derived<'a>(events: &mut Vec<Event<'a>>, d: &'a Derived) -> Result<(), NoMemory>
     ensures { OnOk result (events_backward events.new.items ≡ derived_order (derived_of d.now) (events_backward events.old.items)) }
 {
     part(events, &d.first)?;
@@ -162,7 +162,7 @@ fn derived<'a>(events: &mut Vec<Event<'a>>, d: &'a Derived) -> Result<(), ScopeE
 
 #[cycle(order)]
 #[tactic(auto, using(bqn_syntax::specs::Levels::levels, crate::proofs::Backward::backward_laws, crate::proofs::Unstarted::unstarted_laws))]
-fn modifier<'a>(events: &mut Vec<Event<'a>>, u: &'a ModUse) -> Result<(), ScopeError>
+fn modifier<'a>(events: &mut Vec<Event<'a>>, u: &'a ModUse) -> Result<(), NoMemory>
     ensures { OnOk result (events_backward events.new.items ≡ use_order (use_of u.now) (events_backward events.old.items)) }
 {
     match u {
@@ -176,7 +176,7 @@ fn modifier<'a>(events: &mut Vec<Event<'a>>, u: &'a ModUse) -> Result<(), ScopeE
 
 #[cycle(order)]
 #[tactic(auto, using(bqn_syntax::specs::Levels::levels, crate::proofs::Backward::backward_laws, crate::proofs::Unstarted::unstarted_laws))]
-fn exprs<'a>(events: &mut Vec<Event<'a>>, all: &'a [Expr]) -> Result<(), ScopeError>
+fn exprs<'a>(events: &mut Vec<Event<'a>>, all: &'a [Expr]) -> Result<(), NoMemory>
     ensures { OnOk result (events_backward events.new.items ≡ exprs_order (exprs (map expr_of all.now)) (events_backward events.old.items)) }
 {
     for e in all.iter().rev() {
@@ -187,7 +187,7 @@ fn exprs<'a>(events: &mut Vec<Event<'a>>, all: &'a [Expr]) -> Result<(), ScopeEr
 
 #[cycle(order)]
 #[tactic(auto, using(bqn_syntax::specs::Levels::levels, crate::proofs::Backward::backward_laws, crate::proofs::Unstarted::unstarted_laws))]
-fn parts<'a>(events: &mut Vec<Event<'a>>, all: &'a [Part]) -> Result<(), ScopeError>
+fn parts<'a>(events: &mut Vec<Event<'a>>, all: &'a [Part]) -> Result<(), NoMemory>
     ensures { OnOk result (events_backward events.new.items ≡ parts_order (parts (map part_of all.now)) (events_backward events.old.items)) }
 {
     for x in all.iter().rev() {
@@ -198,7 +198,7 @@ fn parts<'a>(events: &mut Vec<Event<'a>>, all: &'a [Part]) -> Result<(), ScopeEr
 
 #[cycle(order)]
 #[tactic(auto, using(bqn_syntax::specs::Levels::levels, crate::proofs::Backward::backward_laws, crate::proofs::Unstarted::unstarted_laws))]
-fn steps_of<'a>(events: &mut Vec<Event<'a>>, all: &'a [Step]) -> Result<(), ScopeError>
+fn steps_of<'a>(events: &mut Vec<Event<'a>>, all: &'a [Step]) -> Result<(), NoMemory>
     ensures { OnOk result (events_backward events.new.items ≡ steps_order (steps (map step_of all.now)) (events_backward events.old.items)) }
 {
     for s in all.iter().rev() {
@@ -209,7 +209,7 @@ fn steps_of<'a>(events: &mut Vec<Event<'a>>, all: &'a [Step]) -> Result<(), Scop
 
 #[cycle(order)]
 #[tactic(auto, using(bqn_syntax::specs::Levels::levels, crate::proofs::Backward::backward_laws, crate::proofs::Unstarted::unstarted_laws))]
-fn uses<'a>(events: &mut Vec<Event<'a>>, all: &'a [ModUse]) -> Result<(), ScopeError>
+fn uses<'a>(events: &mut Vec<Event<'a>>, all: &'a [ModUse]) -> Result<(), NoMemory>
     ensures { OnOk result (events_backward events.new.items ≡ uses_order (uses (map use_of all.now)) (events_backward events.old.items)) }
 {
     for u in all {
@@ -220,7 +220,7 @@ fn uses<'a>(events: &mut Vec<Event<'a>>, all: &'a [ModUse]) -> Result<(), ScopeE
 
 #[cycle(order)]
 #[tactic(auto, using(bqn_syntax::specs::Levels::levels, crate::proofs::Backward::backward_laws, crate::proofs::Unstarted::unstarted_laws))]
-fn deriveds<'a>(events: &mut Vec<Event<'a>>, all: &'a [Derived]) -> Result<(), ScopeError>
+fn deriveds<'a>(events: &mut Vec<Event<'a>>, all: &'a [Derived]) -> Result<(), NoMemory>
     ensures { OnOk result (events_backward events.new.items ≡ deriveds_order (deriveds (map derived_of all.now)) (events_backward events.old.items)) }
 {
     for d in all {
@@ -230,7 +230,7 @@ fn deriveds<'a>(events: &mut Vec<Event<'a>>, all: &'a [Derived]) -> Result<(), S
 }
 
 #[tactic(auto, using(bqn_syntax::specs::Levels::levels, crate::proofs::Backward::backward_laws))]
-fn stmt<'a>(events: &mut Vec<Event<'a>>, s: &'a Stmt) -> Result<(), ScopeError>
+fn stmt<'a>(events: &mut Vec<Event<'a>>, s: &'a Stmt) -> Result<(), NoMemory>
     ensures { OnOk result (events_backward events.new.items ≡ stmt_order (stmt_of s.now) (events_backward events.old.items)) }
 {
     match s {
@@ -240,7 +240,7 @@ fn stmt<'a>(events: &mut Vec<Event<'a>>, s: &'a Stmt) -> Result<(), ScopeError>
 }
 
 #[tactic(auto, using(bqn_syntax::specs::Levels::levels, crate::proofs::Backward::backward_laws))]
-fn statements<'a>(events: &mut Vec<Event<'a>>, all: &'a [Stmt]) -> Result<(), ScopeError>
+fn statements<'a>(events: &mut Vec<Event<'a>>, all: &'a [Stmt]) -> Result<(), NoMemory>
     ensures { OnOk result (events_backward events.new.items ≡ stmts_order (stmts (map stmt_of all.now)) (events_backward events.old.items)) }
 {
     for s in all.iter().rev() {
@@ -250,7 +250,7 @@ fn statements<'a>(events: &mut Vec<Event<'a>>, all: &'a [Stmt]) -> Result<(), Sc
 }
 
 #[tactic(auto, using(bqn_syntax::specs::Levels::levels, crate::proofs::Backward::backward_laws))]
-fn header<'a>(events: &mut Vec<Event<'a>>, h: &'a Header) -> Result<(), ScopeError>
+fn header<'a>(events: &mut Vec<Event<'a>>, h: &'a Header) -> Result<(), NoMemory>
     ensures { OnOk result (events_backward events.new.items ≡ header_order (Some (header_of h.now)) (events_backward events.old.items)) }
 {
     if let Some(q) = &h.right {
@@ -275,7 +275,7 @@ pub fn order_of<'a>(
     alloc: Global,
     heading: Option<&'a Header>,
     body: &'a [Stmt],
-) -> Result<Vec<Event<'a>>, ScopeError>
+) -> Result<Vec<Event<'a>>, NoMemory>
     ensures { IfOk result (λ events. events_shown events.items ≡ order_of (option_map header_of (option_copied heading.entry)) (stmts (map stmt_of body.now))) }
 {
     let mut events = Vec::new(alloc);

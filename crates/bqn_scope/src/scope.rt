@@ -7,7 +7,7 @@ ghost use Rattle.bqn_scope.specs.Tokens.{names_of_tokens, tokens_shown};
 
 use crate::defined::{Defined, definitions, name_of};
 use crate::early::too_early;
-use crate::error::ScopeError;
+use crate::error::NoMemory;
 use crate::mention::{Event, Mention};
 use crate::places::Places;
 use crate::spellings::Spellings;
@@ -28,7 +28,7 @@ pub fn definitions_in<'a>(
     outer: &Spellings,
     in_block: bool,
     mentions: &[Mention<'a>],
-) -> Result<Defined<'a>, ScopeError>
+) -> Result<Defined<'a>, NoMemory>
     ensures { IfOk result (λ defined. tokens_shown defined.places.tokens.items ≡ definitions (known_in outer.now in_block) (mentions_shown mentions.now)) }
 {
     if in_block {
@@ -45,7 +45,7 @@ pub fn scope_of<'a>(
     in_block: bool,
     mentions: &[Mention<'a>],
     order: &[Event<'a>],
-) -> Result<Scope<'a>, ScopeError>
+) -> Result<Scope<'a>, NoMemory>
     ensures { IfOk result (λ s. scope_shown outer.now s ≡ scope (known_in outer.now in_block) (definitions (known_in outer.now in_block) (mentions_shown mentions.now)) (events_shown order.now) in_block) }
 {
     let defined = definitions_in(alloc, outer, in_block, mentions)?;
@@ -65,7 +65,7 @@ pub fn slot(
     in_block: bool,
     outer: &Spellings,
     name: &[char],
-) -> Result<Option<usize>, ScopeError>
+) -> Result<Option<usize>, NoMemory>
     ensures { IfOk result (λ found. found ≡ place_of (known_in outer.now in_block ++ names_of_tokens (tokens_shown defined.now.places.tokens.items)) name.now) }
 {
     if in_block {
@@ -77,7 +77,7 @@ pub fn slot(
     match defined.names.position(name) {
         Some(place) => match outer.len().checked_add(place) {
             Some(found) => Ok(Some(found)),
-            None => Err(ScopeError::Memory),
+            None => Err(NoMemory),
         },
         None => Ok(None),
     }
@@ -89,7 +89,7 @@ pub fn sees(
     scopes: &[Scope],
     outer: &Spellings,
     name: &[char],
-) -> Result<Option<(usize, usize)>, ScopeError>
+) -> Result<Option<(usize, usize)>, NoMemory>
     ensures { IfOk result (λ found. option_map seen_of found ≡ sees (scopes_around outer.now scopes.now) name.now) }
 {
     let mut index = scopes.len();
