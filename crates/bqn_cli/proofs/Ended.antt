@@ -21,6 +21,11 @@ use Rattle.bqn_syntax.specs.Evaluation.{State, Gives as Value, Faults, Spends}
 use Rattle.bqn_machine.specs.declared.code.Instr.{Instr}
 use Rattle.bqn_machine.specs.declared.end.End.TheVariants as end
 use Rattle.bqn_machine.specs.declared.error.CompileError.TheVariants as compile
+use Rattle.bqn_code.specs.Plain.{Code}
+use Rattle.bqn_code.specs.declared.code.Code.{Code as Given}
+use Rattle.bqn_compile.specs.declared.error.CompileError.TheVariants as code
+use Rattle.bqn_compile.specs.Shown.{CompilesTo, resolution_shown}
+use Rattle.bqn_compile.specs.Translation.{translated}
 use Rattle.bqn_machine.specs.Execution.{Run, executed}
 use Rattle.bqn_machine.specs.Compiling.{Compiles}
 use Rattle.bqn_machine.specs.Running.{EndsAs}
@@ -31,7 +36,7 @@ use Rattle.std.specs.declared.vec.Vec.{Vec}
 use Rattle.std.specs.declared.alloc.Global.{Global}
 use Rattle.bqn_cli.specs.declared.halted.Halted.{Halted}
 use Rattle.bqn_cli.specs.declared.halted.Halted.TheVariants as halted
-use Rattle.bqn_cli.specs.Answer.{Answer, ended, faulted, refused, tokens_answer, parsed_answer, tree_answer, scoped_answer, form_answer, default_steps}
+use Rattle.bqn_cli.specs.Answer.{Answer, ended, faulted, refused, tokens_answer, parsed_answer, tree_answer, scoped_answer, coded_answer, form_answer, default_steps}
 use Rattle.bqn_cli.specs.Writing.{Gives, GivesRun}
 
 -- code of a source misses no operand
@@ -95,10 +100,16 @@ module _ {K : Type 0} (written : K → Option (List ℕ)) (room faults : K → �
   pub source-memory : (form : Option (List Stmt)) (old : K) → Gives written room faults (form_answer form) old old (Err halted.Memory)
   source-memory form old = record { front = []; rest = (form_answer form).out; whole = refl; adds = adds-nothing written room faults old }
 
-  pub resolved-form : (tokens : List Token) (given : Tree) (resolved : Resolved) (old new : K) (result : Result Status Halted) → Resolves (resolution [] (tree_of given)) given (Ok resolved) → Gives written room faults (form_answer (form_of tokens (tree_of resolved.tree))) old new result → Gives written room faults (tree_answer tokens (tree_of given)) old new result
-  resolved-form tokens given resolved old new result r h =
+  pub coded-form : (tokens : List Token) (stmts : Stmts) (answer : Result Code Refusal) (given : Given) (old new : K) (result : Result Status Halted) → CompilesTo answer (Ok given) → Gives written room faults (form_answer (form_of tokens stmts)) old new result → Gives written room faults (coded_answer tokens stmts answer) old new result
+  coded-form tokens stmts answer given old new result e h = subst (λ (a : Result Code Refusal). Gives written room faults (coded_answer tokens stmts a) old new result) (sym e) h
+
+  pub coded-refusal : (tokens : List Token) (stmts : Stmts) (answer : Result Code Refusal) (r : Refusal) (old new : K) (result : Result Status Halted) → CompilesTo answer (Err (code.Refused r)) → Gives written room faults (refused r) old new result → Gives written room faults (coded_answer tokens stmts answer) old new result
+  coded-refusal tokens stmts answer r old new result e h = subst (λ (a : Result Code Refusal). Gives written room faults (coded_answer tokens stmts a) old new result) (sym e) h
+
+  pub resolved-code : (tokens : List Token) (given : Tree) (resolved : Resolved) (old new : K) (result : Result Status Halted) → Resolves (resolution [] (tree_of given)) given (Ok resolved) → Gives written room faults (coded_answer tokens (tree_of resolved.tree) (translated (resolution_shown resolved) (tree_of resolved.tree))) old new result → Gives written room faults (tree_answer tokens (tree_of given)) old new result
+  resolved-code tokens given resolved old new result r h =
       subst (λ (a : Result Resolution Refusal). Gives written room faults (scoped_answer tokens (tree_of given) a) old new result) (sym r.1)
-      (subst (λ (t : Tree). Gives written room faults (form_answer (form_of tokens (tree_of t))) old new result) r.0 h)
+      (subst (λ (t : Tree). Gives written room faults (coded_answer tokens (tree_of t) (translated (resolution_shown resolved) (tree_of t))) old new result) r.0 h)
 
   pub resolved-refusal : (tokens : List Token) (given : Tree) (r : Refusal) (old new : K) (result : Result Status Halted) → Resolves (resolution [] (tree_of given)) given (Err (scope.Refused r)) → Gives written room faults (refused r) old new result → Gives written room faults (tree_answer tokens (tree_of given)) old new result
   resolved-refusal tokens given r old new result e h = subst (λ (a : Result Resolution Refusal). Gives written room faults (scoped_answer tokens (tree_of given) a) old new result) (sym e) h
@@ -120,7 +131,9 @@ module _ {K : Type 0} (written : K → Option (List ℕ)) (room faults : K → �
 
 pub ruleset token_laws = (source-tokens, source-refusal, gives-nothing)
 
-pub ruleset tree_laws = (resolved-form, resolved-refusal, gives-nothing)
+pub ruleset code_laws = (coded-form, coded-refusal, gives-nothing)
+
+pub ruleset tree_laws = (resolved-code, resolved-refusal, gives-nothing)
 
 pub ruleset parsed_laws = (parsed-tree, parsed-refusal, gives-nothing)
 

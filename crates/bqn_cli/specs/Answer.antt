@@ -15,6 +15,8 @@ use Rattle.bqn_syntax.specs.Parsing.{parsed}
 use Rattle.bqn_syntax.specs.Bodies.{Resolution, resolution}
 use Rattle.bqn_syntax.specs.Form.{form_of}
 use Rattle.bqn_syntax.specs.Evaluation.{Res, Gives, Faults, Spends, evaluated}
+use Rattle.bqn_code.specs.Plain.{Code}
+use Rattle.bqn_compile.specs.Translation.{translated}
 use Rattle.bqn_cli.specs.Command.{Command, Run, NoCommand}
 
 pub record Answer : Type 0 where
@@ -43,10 +45,15 @@ abbrev pub form_answer : Option (List Stmt) → Answer
 form_answer None = refused NotYet
 form_answer (Some form) = ended (evaluated form default_steps)
 
--- the refusal of a name, or what the form of a tree gives
+-- the refusal of one constant, name or block too many, or what the form of a tree gives
+abbrev pub coded_answer : List Token → Stmts → Result Code Refusal → Answer
+coded_answer tokens stmts (Err refusal) = refused refusal
+coded_answer tokens stmts (Ok code) = form_answer (form_of tokens stmts)
+
+-- the refusal of a name, or what the code of a tree gives
 abbrev pub scoped_answer : List Token → Stmts → Result Resolution Refusal → Answer
 scoped_answer tokens stmts (Err refusal) = refused refusal
-scoped_answer tokens stmts (Ok resolution) = form_answer (form_of tokens stmts)
+scoped_answer tokens stmts (Ok resolution) = coded_answer tokens stmts (translated resolution stmts)
 
 -- no names are known before a source
 abbrev pub tree_answer : List Token → Stmts → Answer

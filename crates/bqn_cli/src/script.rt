@@ -6,16 +6,19 @@ ghost use Rattle.bqn_syntax.specs.Form.{form_of};
 ghost use Rattle.bqn_syntax.specs.Parsing.{parsed};
 ghost use Rattle.bqn_syntax.specs.Plain.{tree_of};
 ghost use Rattle.bqn_machine.specs.Execution.{executed};
-ghost use Rattle.bqn_cli.specs.Answer.{default_steps, faulted, form_answer, parsed_answer, refused, source_answer, tree_answer};
+ghost use Rattle.bqn_compile.specs.Shown.{resolution_shown};
+ghost use Rattle.bqn_compile.specs.Translation.{translated};
+ghost use Rattle.bqn_cli.specs.Answer.{coded_answer, default_steps, faulted, form_answer, parsed_answer, refused, source_answer, tree_answer};
 ghost use Rattle.bqn_cli.specs.Writing.{Gives, GivesRun};
 
 use crate::halted::Halted;
 use crate::lines::{error_line, refusal_line};
 use bqn_base::{Fault, Refusal, Status};
 use bqn_io::{Failed, Sink};
-use bqn_machine::{CompileError, End, Instr, compile, run_code};
+use bqn_compile::CompileError;
+use bqn_machine::{End, Instr, run_code};
 use bqn_parse::{ParseError, parse};
-use bqn_scope::{Names, ScopeError, resolve};
+use bqn_scope::{Names, Resolved, ScopeError, resolve};
 use bqn_syntax::{Token, Tree};
 use bqn_token::{TokenError, tokens};
 use std::alloc::Global;
@@ -85,9 +88,26 @@ fn run_form<K: Sink>(
 ) -> Result<Status, Halted>
     ensures { Gives K.written K.room K.faults (form_answer (form_of tokens.now (tree_of tree.now))) out.old out.new result }
 {
-    match compile(alloc, tokens, tree) {
+    match bqn_machine::compile(alloc, tokens, tree) {
         Ok(code) => run(alloc, &code, out),
-        Err(CompileError::NotYet) => refuse(alloc, Refusal::NotYet, out),
+        Err(bqn_machine::CompileError::NotYet) => refuse(alloc, Refusal::NotYet, out),
+        Err(bqn_machine::CompileError::Memory) => Err(Halted::Memory),
+    }
+}
+
+/// Refuses a tree for one constant, name or block too many, or runs it.
+#[tactic(auto, using(crate::proofs::Ended::code_laws))]
+fn run_resolved<K: Sink>(
+    alloc: Global,
+    tokens: &[Token],
+    resolved: &Resolved,
+    out: &mut K,
+) -> Result<Status, Halted>
+    ensures { Gives K.written K.room K.faults (coded_answer tokens.now (tree_of resolved.now.tree) (translated (resolution_shown resolved.now) (tree_of resolved.now.tree))) out.old out.new result }
+{
+    match bqn_compile::compile(alloc, resolved) {
+        Ok(_) => run_form(alloc, tokens, &resolved.tree, out),
+        Err(CompileError::Refused(refusal)) => refuse(alloc, refusal, out),
         Err(CompileError::Memory) => Err(Halted::Memory),
     }
 }
@@ -103,7 +123,7 @@ fn run_tree<K: Sink>(
     ensures { Gives K.written K.room K.faults (tree_answer tokens.now (tree_of tree)) out.old out.new result }
 {
     match resolve(alloc, tree, &Names::new(alloc)) {
-        Ok(resolved) => run_form(alloc, tokens, &resolved.tree, out),
+        Ok(resolved) => run_resolved(alloc, tokens, &resolved, out),
         Err(ScopeError::Refused(refusal)) => refuse(alloc, refusal, out),
         Err(ScopeError::Memory) => Err(Halted::Memory),
     }

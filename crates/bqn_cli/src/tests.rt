@@ -144,6 +144,18 @@ fn sources_of_many_bytes(rt: HostRuntime) -> Result<(), Fail> {
 }
 
 #[test]
+fn one_block_too_many(rt: HostRuntime) -> Result<(), Fail> {
+    let mut source = String::new(rt.alloc());
+    for _ in 0..65_535 {
+        source.push_str("{0}\n")?;
+    }
+    assert!(rt; is_refused(&rt, &source, "NotYet")?);
+    source.push_str("{0}\n")?;
+    assert!(rt; is_refused(&rt, &source, "TooMany 65536:1")?);
+    Ok(())
+}
+
+#[test]
 fn parentheses(rt: HostRuntime) -> Result<(), Fail> {
     let alloc = rt.alloc();
     for (depth, written) in [(128, "1\n"), (129, "Refused: TooNested 1:135\n")] {
