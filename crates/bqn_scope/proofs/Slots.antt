@@ -1,16 +1,15 @@
--- The slot of a name in the bodies around.
-use Rattle.std.proofs.Common.{◌≡◌, ℕ, zero, suc, Bool, true, false, not, cond, if◌then◌else◌, List, [], ◌∷◌, ◌++◌, map, length, get_or, take, position, Option, Some, None, Bor, ◌<◌, ◌≤◌, ◌+◌, ◌-◌, refl, sym, ap, ◌∙◌, arith}
+-- The slot of a name in a body.
+use Rattle.std.proofs.Common.{◌≡◌, ℕ, zero, suc, Bool, true, false, not, cond, if◌then◌else◌, List, [], ◌∷◌, ◌++◌, length, get_or, position, Some, None, Bor, ◌<◌, ◌≤◌, ◌+◌, refl, sym, ap, ◌∙◌, arith}
 use Rattle.std.specs.Prelude.{nat_lt}
 use Rattle.std.specs.List.{position_or_len}
 use Rattle.std.specs.Option.{option_map}
-use Rattle.std.proofs.lemmas.List.{length-map, length-append, reverse-append, take_more, take_all}
+use Rattle.std.proofs.lemmas.List.{length-map, length-append}
 use Rattle.std.proofs.lemmas.Bool.{lt-ltb}
 use Rattle.std.proofs.lemmas.Bool.Decides.{nat_tests}
 use Rattle.bqn_syntax.specs.declared.token.Token.{Token}
-use Rattle.bqn_syntax.specs.Scope.{Seen, name_of, names_of, same_name, same_place, is_again, sees, or_outward, outward}
+use Rattle.bqn_syntax.specs.Scope.{name_of, same_name, same_place, is_again}
 use Rattle.bqn_scope.specs.Names.{place_of}
-use Rattle.bqn_scope.specs.declared.scope.Scope.{Scope as CodeScope}
-use Rattle.bqn_scope.specs.Scopes.{known_in, scope_shown, scopes_around, raised}
+use Rattle.bqn_scope.specs.Scopes.{known_in}
 use Rattle.bqn_scope.specs.Tokens.{tokens_shown, names_of_tokens}
 use Rattle.bqn_scope.proofs.Waiting.{is_some-at, is_none-at, one-plus}
 
@@ -76,72 +75,6 @@ slot-none outer names b n e f g =
     ∙ ap (λ (k : Bool). place_of (known_in outer k ++ names) n) (sym e)
 
 pub ruleset slot_laws = (slot-block, slot-known, slot-own, slot-none)
-
-sees-take : (outer : List (List ℕ)) (all : List CodeScope) (i : ℕ) (s : CodeScope) (n : List ℕ) → i < length all → s ≡ get_or all i s → sees (scopes_around outer (take (i + 1) all)) n ≡ or_outward (place_of (names_of (scope_shown outer s)) n) (sees (scopes_around outer (take i all)) n)
-sees-take outer all i s n inside is =
-    ap (λ (xs : List CodeScope). sees (scopes_around outer xs) n) (take_more all i s inside)
-    ∙ ap (λ (x : CodeScope). sees (scopes_around outer (take i all ++ x ∷ [])) n) (sym is)
-    ∙ ap (λ (xs : List CodeScope). sees (map (scope_shown outer) xs) n) (reverse-append (take i all) (s ∷ []))
-
-raised-none : (found : Option Seen) → raised 0 found ≡ found
-raised-none None = refl
-raised-none (Some s) = ap (λ (up : ℕ). Some (record { up = up; slot = s.slot })) (omega arith)
-
-raised-more : (k : ℕ) (found : Option Seen) → raised k (outward found) ≡ raised (k + 1) found
-raised-more k None = refl
-raised-more k (Some s) = ap (λ (up : ℕ). Some (record { up = up; slot = s.slot })) (omega arith)
-
--- the bodies inside these have been asked
-pub record Asked (outer : List (List ℕ)) (all : List CodeScope) (n : List ℕ) (index : ℕ) : Type 0 where
-  pub inside : index ≤ length all
-  pub same : sees (scopes_around outer all) n ≡ raised (length all - index) (sees (scopes_around outer (take index all)) n)
-
-pub asked-start : (outer : List (List ℕ)) (all : List CodeScope) (n : List ℕ) (index : ℕ) → index ≡ length all → Asked outer all n index
-asked-start outer all n index e = record {
-  inside = omega arith;
-  same =
-      sym (raised-none (sees (scopes_around outer all) n))
-      ∙ ap (λ (k : ℕ). raised k (sees (scopes_around outer all) n)) (none_left (length all) index e)
-      ∙ ap (λ (xs : List CodeScope). raised (length all - index) (sees (scopes_around outer xs) n)) (sym (take_all index all (omega arith)));
-}
-  where
-    none_left : (a b : ℕ) → b ≡ a → 0 ≡ a - b
-    none_left a b e = omega arith
-
-asked-at : (outer : List (List ℕ)) (all : List CodeScope) (n : List ℕ) (index : ℕ) (s : CodeScope) → Asked outer all n index → 0 < index → s ≡ get_or all (index - 1) s → sees (scopes_around outer all) n ≡ raised (length all - index) (or_outward (place_of (names_of (scope_shown outer s)) n) (sees (scopes_around outer (take (index - 1) all)) n))
-asked-at outer all n index s asked some is =
-    let e : index ≡ (index - 1) + 1 = omega arith in
-    let inside : index - 1 < length all = omega (arith, asked.inside) in
-    asked.same
-    ∙ ap (λ (k : ℕ). raised (length all - index) (sees (scopes_around outer (take k all)) n)) e
-    ∙ ap (raised (length all - index)) (sees-take outer all (index - 1) s n inside is)
-
-pub asked-found : (outer : List (List ℕ)) (all : List CodeScope) (n : List ℕ) (index : ℕ) (s : CodeScope) (slot : ℕ) → Asked outer all n index → 0 < index → s ≡ get_or all (index - 1) s → Some slot ≡ place_of (names_of (scope_shown outer s)) n → Some (record { up = length all - 1 - (index - 1); slot = slot }) ≡ sees (scopes_around outer all) n
-asked-found outer all n index s slot asked some is e =
-    ap (λ (up : ℕ). Some (record { up = up; slot = slot })) (distance (length all) index some asked.inside)
-    ∙ ap (λ (found : Option ℕ). raised (length all - index) (or_outward found (sees (scopes_around outer (take (index - 1) all)) n))) e
-    ∙ sym (asked-at outer all n index s asked some is)
-  where
-    distance : (a i : ℕ) → 0 < i → i ≤ a → a - 1 - (i - 1) ≡ 0 + (a - i)
-    distance a i h k = omega arith
-
-pub asked-next : (outer : List (List ℕ)) (all : List CodeScope) (n : List ℕ) (index : ℕ) (s : CodeScope) → Asked outer all n index → 0 < index → s ≡ get_or all (index - 1) s → None ≡ place_of (names_of (scope_shown outer s)) n → Asked outer all n (index - 1)
-asked-next outer all n index s asked some is e = record {
-  inside = omega (arith, asked.inside);
-  same =
-      asked-at outer all n index s asked some is
-      ∙ ap (λ (found : Option ℕ). raised (length all - index) (or_outward found (sees (scopes_around outer (take (index - 1) all)) n))) (sym e)
-      ∙ raised-more (length all - index) (sees (scopes_around outer (take (index - 1) all)) n)
-      ∙ ap (λ (k : ℕ). raised k (sees (scopes_around outer (take (index - 1) all)) n)) (one_less (length all) index some asked.inside);
-}
-  where
-    one_less : (a i : ℕ) → 0 < i → i ≤ a → (a - i) + 1 ≡ a - (i - 1)
-    one_less a i h k = omega arith
-
-pub asked-end : (outer : List (List ℕ)) (all : List CodeScope) (n : List ℕ) (index : ℕ) → Asked outer all n index → index ≡ 0 → None ≡ sees (scopes_around outer all) n
-asked-end outer all n index asked e = sym (asked.same ∙ ap (λ (k : ℕ). raised (length all - index) (sees (scopes_around outer (take k all)) n)) e)
-
-pub ruleset sees_laws = (asked-start, asked-found, asked-next, asked-end)
 
 again-at : (ds : List Token) (t d : Token) → position_or_len (λ o. same_name o (name_of t)) (names_of_tokens ds) < length ds → d ≡ get_or ds (position_or_len (λ o. same_name o (name_of t)) (names_of_tokens ds)) d → not (same_place t d) ≡ is_again ds t
 again-at [] t d h e = absurd (omega arith)

@@ -1,5 +1,5 @@
 -- The place of a name, among keys and among the names that they spell.
-use Rattle.std.proofs.Common.{◌≡◌, ℕ, ◌+◌, ◌<◌, ◌≤◌, suc, Bool, true, false, not, cond, if◌then◌else◌, List, [], ◌∷◌, ◌++◌, Option, Some, None, length, position, Vec, refl, sym, ap, ◌∙◌, arith}
+use Rattle.std.proofs.Common.{◌≡◌, ℕ, ◌+◌, ◌<◌, ◌≤◌, zero, suc, Bool, true, false, not, cond, if◌then◌else◌, List, [], ◌∷◌, ◌++◌, Option, Some, None, get_or, length, position, Vec, refl, sym, ap, ◌∙◌, arith}
 use Rattle.std.specs.Prelude.{nat_eq, nat_lt, ◌||◌}
 use Rattle.std.specs.List.{AllByRecursion, IsDistinct, position_or_len, list_any}
 use Rattle.std.specs.Cmp.Lexicographic.{pointwise, nat_list_eq_equiv}
@@ -84,6 +84,11 @@ module _ {A : Type 0} where
       ∙ spelled-pushed keys key
       ∙ ap (λ (spelling : List ℕ). spelled keys ++ spelling ∷ []) e
 
-pub ruleset name_laws = (place-spelled, has-spelled, length-spelled, distinct-spelled)
+  pub spelled-at : (keys : List (Vec ℕ A)) (i : ℕ) (key : Vec ℕ A) → key ≡ get_or keys i key → key.items ≡ get_or (spelled keys) i key.items
+  spelled-at [] i key e = refl
+  spelled-at (k ∷ keys) zero key e = ap (λ (x : Vec ℕ A). x.items) e
+  spelled-at (k ∷ keys) (suc i) key e = spelled-at keys i key e
+
+pub ruleset name_laws = (place-spelled, has-spelled, length-spelled, distinct-spelled, spelled-at)
 
 pub ruleset added_laws = (added-full, added-new, absent)

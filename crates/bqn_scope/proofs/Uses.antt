@@ -1,35 +1,22 @@
 -- The uses of a body, one mention after another.
-use Rattle.std.proofs.Common.{◌≡◌, ℕ, Bool, true, false, cond, List, [], ◌∷◌, ◌++◌, map, length, Some, None, Result, Ok, Err, refl, sym, ap, ◌∙◌, arith}
+use Rattle.std.proofs.Common.{◌≡◌, ℕ, Bool, false, List, [], ◌∷◌, ◌++◌, length, Result, Ok, Err, refl, sym, ap, ◌∙◌, arith}
 use Rattle.std.specs.List.{list_any}
-use Rattle.std.proofs.lemmas.List.{reverse-append, map-append}
+use Rattle.std.proofs.lemmas.List.{map-append}
 use Rattle.bqn_base.specs.declared.refusal.Refusal.{Refusal}
 use Rattle.bqn_base.specs.declared.refusal.Refusal.TheVariants as refusal
 use Rattle.bqn_syntax.specs.declared.token.Token.{Token}
 use Rattle.bqn_syntax.specs.Order.{How, Reads, Defines, Exports, Changes, Shows}
-use Rattle.bqn_syntax.specs.Scope.{Scope, Use, name_of, names_of, same_place, is_again, sees, has, read, define, unless, named, stands_in_block}
-use Rattle.bqn_scope.specs.Names.{place_of}
+use Rattle.bqn_syntax.specs.Scope.{Scope, Use, name_of, same_place, is_again, sees, read, define, unless, named, stands_in_block}
 use Rattle.bqn_scope.specs.declared.error.ScopeError.{ScopeError}
 use Rattle.bqn_scope.specs.declared.error.ScopeError.TheVariants.{Refused, Memory}
 use Rattle.bqn_scope.specs.declared.scope.Scope.{Scope as CodeScope}
 use Rattle.bqn_scope.specs.declared.used.Use.{Use as CodeUse}
 use Rattle.bqn_scope.specs.Scopes.{Writes, Passes, scope_shown, scopes_around, use_shown, uses_shown}
-use Rattle.bqn_scope.proofs.Spelling.{none-passes, any-before}
+use Rattle.bqn_scope.specs.Around.{has_last}
+use Rattle.bqn_scope.proofs.Bodies.{around-last}
 
 pub uses-more : (uses : List CodeUse) (u : CodeUse) → uses_shown (uses ++ u ∷ []) ≡ uses_shown uses ++ use_shown u ∷ []
 uses-more uses u = map-append use_shown uses (u ∷ [])
-
-some-lt : (b : Bool) (i n : ℕ) → Some i ≡ cond b (Some n) None → b ≡ true
-some-lt true i n e = refl
-some-lt false i n e = cc
-
-pub has-some : (names : List (List ℕ)) (name : List ℕ) (i : ℕ) → Some i ≡ place_of names name → has names name ≡ true
-has-some names name i e = any-before _ names ∙ some-lt _ i _ e
-
-pub has-none : (names : List (List ℕ)) (name : List ℕ) → None ≡ place_of names name → has names name ≡ false
-has-none names name e = none-passes _ names (sym e)
-
-pub around-last : (outer : List (List ℕ)) (all around : List CodeScope) (s : CodeScope) → all ≡ around ++ s ∷ [] → scopes_around outer all ≡ scope_shown outer s ∷ scopes_around outer around
-around-last outer all around s e = ap (scopes_around outer) e ∙ ap (map (scope_shown outer)) (reverse-append around (s ∷ []))
 
 pub in-block-last : (outer : List (List ℕ)) (all around : List CodeScope) (s : CodeScope) → all ≡ around ++ s ∷ [] → stands_in_block (scopes_around outer all) ≡ s.in_block
 in-block-last outer all around s e = ap stands_in_block (around-last outer all around s e)
@@ -73,9 +60,13 @@ writes-unless met q us (Ok v) h = ap (λ (b : Bool). unless b q (uses_shown us))
 writes-unless met q us (Err (Refused other)) h = ap (λ (b : Bool). unless b q (uses_shown us)) h.0 ∙ ap (λ (x : Refusal). Err x) (sym h.1)
 writes-unless met q us (Err Memory) h = tt
 
-pub named-shows : {T : Type 0} (outer : List (List ℕ)) (all around : List CodeScope) (s : CodeScope) (t : Token) (us : List CodeUse) (r : Result T ScopeError) → all ≡ around ++ s ∷ [] → Passes (has (names_of (scope_shown outer s)) (name_of t)) (refusal.Undeclared t.place) r → Writes (named (scopes_around outer all) Shows t (uses_shown us)) us r
-named-shows outer all around s t us r e h = writes-along _ _ us r (sym (ap (λ (xs : List Scope). named xs Shows t (uses_shown us)) (around-last outer all around s e))) (writes-unless _ _ us r h)
+pub named-shows : {T : Type 0} (outer : List (List ℕ)) (all around : List CodeScope) (s : CodeScope) (t : Token) (us : List CodeUse) (r : Result T ScopeError) → all ≡ around ++ s ∷ [] → Passes (has_last (scopes_around outer all) (name_of t)) (refusal.Undeclared t.place) r → Writes (named (scopes_around outer all) Shows t (uses_shown us)) us r
+named-shows outer all around s t us r e h =
+    writes-along _ _ us r
+    (ap (λ (xs : List Scope). unless (has_last xs (name_of t)) (refusal.Undeclared t.place) (uses_shown us)) (around-last outer all around s e)
+    ∙ sym (ap (λ (xs : List Scope). named xs Shows t (uses_shown us)) (around-last outer all around s e)))
+    (writes-unless _ _ us r h)
 
-pub ruleset use_laws = (uses-more, has-some, has-none, in-block-last, in-block-none, named-none)
+pub ruleset use_laws = (uses-more, in-block-last, in-block-none, named-none)
 
-pub ruleset walk_laws = (around-last, writes-unless)
+pub ruleset walk_laws = (writes-unless)

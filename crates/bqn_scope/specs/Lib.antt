@@ -3,6 +3,8 @@ pub mod Tokens
 pub mod Defining
 pub mod Waiting
 pub mod Scopes
+pub mod Bindings
+pub mod Around
 pub mod Numbering
 pub mod Resolving
 pub mod Shown

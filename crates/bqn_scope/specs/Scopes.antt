@@ -1,6 +1,5 @@
 -- What the scopes of enclosing bodies stand for, and the uses that are written.
-use Rattle.std.specs.Prelude.{◌≡◌, ℕ, ◌+◌, Bool, true, false, List, [], ◌∷◌, map, reverse, Option, Result, Ok, Err}
-use Rattle.std.specs.Option.{option_map}
+use Rattle.std.specs.Prelude.{◌≡◌, ℕ, Bool, true, false, List, [], ◌∷◌, map, reverse, Result, Ok, Err}
 use Rattle.bqn_base.specs.declared.refusal.Refusal.{Refusal}
 use Rattle.bqn_syntax.specs.Scope.{Scope, Seen, Use, uses_of, block_scope}
 use Rattle.bqn_scope.specs.declared.error.ScopeError.{ScopeError}
@@ -24,10 +23,6 @@ scopes_around outer all = map (scope_shown outer) (reverse all)
 
 abbrev pub seen_of : ℕ × ℕ → Seen
 seen_of found = record { up = found.0; slot = found.1 }
-
--- so many bodies further outward
-abbrev pub raised : ℕ → Option Seen → Option Seen
-raised n found = option_map (λ s. record { up = s.up + n; slot = s.slot }) found
 
 abbrev pub use_shown : CodeUse → Use
 use_shown u = record { seen = record { up = u.up; slot = u.slot }; place = u.place }

@@ -2,6 +2,8 @@
 //! name of a tree refers to.
 #![tactic(auto)]
 
+mod around;
+mod bindings;
 mod body_names;
 mod defined;
 mod early;

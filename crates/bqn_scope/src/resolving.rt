@@ -7,6 +7,7 @@ ghost use Rattle.bqn_scope.specs.Numbering.{bodies_shown};
 ghost use Rattle.bqn_scope.specs.Resolving.{GivesParts, GivesUses, Resolves};
 ghost use Rattle.bqn_scope.specs.Shown.{events_shown, mentions_shown};
 
+use crate::around::Around;
 use crate::body_names::{BodyNames, body_names};
 use crate::error::ScopeError;
 use crate::mention::{Event, Mention};
@@ -14,7 +15,6 @@ use crate::mentions::mentions_of;
 use crate::names::Names;
 use crate::numbering::inside;
 use crate::order::order_of;
-use crate::scope::scope_of;
 use crate::spellings::Spellings;
 use crate::used::Use;
 use crate::walk::walk;
@@ -35,21 +35,17 @@ pub struct Resolved {
 #[tactic(auto, using(crate::proofs::Uses::use_laws))]
 fn uses_of_program<'a>(
     alloc: Global,
-    outer: &Spellings,
+    outer: &'a Spellings,
     mentions: &[Mention<'a>],
     order: &[Event<'a>],
 ) -> Result<Vec<Use>, ScopeError>
     ensures { GivesUses (uses_of (top_scope outer.now (mentions_shown mentions.now) (events_shown order.now) ∷ []) (mentions_shown mentions.now) []) result }
 {
-    let Ok(scope) = scope_of(alloc, outer, false, mentions, order) else {
-        return Err(ScopeError::Memory);
-    };
-    let mut scopes = Vec::new(alloc);
-    let Ok(()) = scopes.push(scope) else {
+    let Ok(mut around) = Around::of_program(alloc, outer, mentions, order) else {
         return Err(ScopeError::Memory);
     };
     let mut uses = Vec::new(alloc);
-    match walk(alloc, outer, &mut scopes, mentions, &mut uses) {
+    match walk(alloc, &mut around, mentions, &mut uses) {
         Ok(()) => Ok(uses),
         Err(error) => Err(error),
     }
@@ -75,10 +71,10 @@ fn bodies_of_program(
 
 /// The bodies and the uses of a program.
 #[tactic(auto, using(crate::proofs::Program::program_laws))]
-fn parts_of(
+fn parts_of<'a>(
     alloc: Global,
-    outer: &Spellings,
-    statements: &[Stmt],
+    outer: &'a Spellings,
+    statements: &'a [Stmt],
 ) -> Result<(Vec<BodyNames>, Vec<Use>), ScopeError>
     ensures { GivesParts (resolution outer.now (stmts (map stmt_of statements.now))) result }
 {

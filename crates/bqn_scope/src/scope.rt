@@ -1,7 +1,6 @@
 ghost use Rattle.std.specs.Prelude.{◌≡◌, ◌++◌, IfOk};
-ghost use Rattle.std.specs.Option.{option_map};
-ghost use Rattle.bqn_syntax.specs.Scope.{definitions, has, is_again, place_of, same_place, scope, sees};
-ghost use Rattle.bqn_scope.specs.Scopes.{known_in, scope_shown, scopes_around, seen_of};
+ghost use Rattle.bqn_syntax.specs.Scope.{definitions, has, is_again, place_of, same_place, scope};
+ghost use Rattle.bqn_scope.specs.Scopes.{known_in, scope_shown};
 ghost use Rattle.bqn_scope.specs.Shown.{events_shown, mentions_shown};
 ghost use Rattle.bqn_scope.specs.Tokens.{names_of_tokens, tokens_shown};
 
@@ -81,28 +80,6 @@ pub fn slot(
         },
         None => Ok(None),
     }
-}
-
-/// How many bodies outward a name is found, and its slot there.
-#[tactic(auto, using(crate::proofs::Slots::sees_laws))]
-pub fn sees(
-    scopes: &[Scope],
-    outer: &Spellings,
-    name: &[char],
-) -> Result<Option<(usize, usize)>, NoMemory>
-    ensures { IfOk result (λ found. option_map seen_of found ≡ sees (scopes_around outer.now scopes.now) name.now) }
-{
-    let mut index = scopes.len();
-    'scopes: while index > 0 {
-        index -= 1;
-        let scope = &scopes[index];
-        match slot(&scope.defined, scope.in_block, outer, name) {
-            Ok(Some(place)) => return Ok(Some((scopes.len() - 1 - index, place))),
-            Ok(None) => {}
-            Err(error) => return Err(error),
-        }
-    }
-    Ok(None)
 }
 
 /// Whether two tokens stand in one place.

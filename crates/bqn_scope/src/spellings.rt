@@ -1,4 +1,4 @@
-ghost use Rattle.std.specs.Prelude.{◌≡◌, ◌<◌, [], ◌∷◌, ◌++◌, None, false, length, nat_eq, IsTrue, OnOk, OnErr, IfSome};
+ghost use Rattle.std.specs.Prelude.{◌≡◌, ◌<◌, [], ◌∷◌, ◌++◌, None, false, get_or, length, nat_eq, IsTrue, OnOk, OnErr, IfSome};
 ghost use Rattle.std.specs.List.{IsDistinct, list_all};
 ghost use Rattle.std.specs.Cmp.Lexicographic.{pointwise};
 ghost use Rattle.bqn_base.specs.Names.{is_name_character};
@@ -66,6 +66,15 @@ impl Spellings {
         ensures distinct { IsDistinct (pointwise nat_eq) self.now }
     {
         self.spellings.get_index_of(name)
+    }
+
+    /// The name at a place.
+    #[tactic(auto, using(crate::proofs::Spelling::name_laws))]
+    pub fn at(&self, place: usize) -> &[char]
+        requires { place < length self.now }
+        ensures { result.now ≡ get_or self.now place result.now }
+    {
+        self.spellings.as_slice()[place].as_slice()
     }
 
     /// Puts a name to the end that the list does not hold.

@@ -2,15 +2,16 @@ ghost use Rattle.std.specs.Prelude.{◌≡◌, [], ◌∷◌, ◌++◌, Ok};
 ghost use Rattle.std.specs.List.{list_any};
 ghost use Rattle.bqn_base.specs.declared.refusal.Refusal.TheVariants as refusal;
 ghost use Rattle.bqn_syntax.specs.Scope as text;
-ghost use Rattle.bqn_scope.specs.Scopes.{Passes, Writes, scope_shown, scopes_around, seen_of, uses_shown};
+ghost use Rattle.bqn_scope.specs.Around.{IsBound, bodies_around, has_last};
+ghost use Rattle.bqn_scope.specs.Scopes.{Passes, Writes, seen_of, uses_shown};
 ghost use Rattle.bqn_scope.specs.Shown.{how_shown};
 ghost use Rattle.bqn_scope.specs.Tokens.{tokens_shown};
 
+use crate::around::Around;
 use crate::defined::name_of;
 use crate::error::ScopeError;
 use crate::mention::How;
-use crate::scope::{Scope, is_again, sees, slot};
-use crate::spellings::Spellings;
+use crate::scope::{Scope, is_again};
 use bqn_base::{Place, Refusal};
 use bqn_syntax::Token;
 
@@ -41,71 +42,66 @@ fn write(uses: &mut Vec<Use>, found: (usize, usize), place: Place) -> Result<(),
 
 /// Writes the use of a token's name.
 #[tactic(auto, using(crate::proofs::Uses::use_laws))]
-fn used(
-    scopes: &[Scope],
-    outer: &Spellings,
-    token: &Token,
-    uses: &mut Vec<Use>,
-) -> Result<(), ScopeError>
-    ensures { Writes (text.used token.now (text.sees (scopes_around outer.now scopes.now) (text.name_of token.now)) (uses_shown uses.old.items)) uses.new.items result }
+fn used(around: &Around, token: &Token, uses: &mut Vec<Use>) -> Result<(), ScopeError>
+    requires { IsBound around.now }
+    ensures { Writes (text.used token.now (text.sees (bodies_around around.now) (text.name_of token.now)) (uses_shown uses.old.items)) uses.new.items result }
 {
-    match sees(scopes, outer, name_of(token)) {
-        Ok(Some(found)) => write(uses, found, token.place),
-        Ok(None) => Err(ScopeError::Refused(Refusal::Undeclared(token.place))),
-        Err(_) => Err(ScopeError::Memory),
+    match around.sees(name_of(token)) {
+        Some(found) => write(uses, found, token.place),
+        None => Err(ScopeError::Refused(Refusal::Undeclared(token.place))),
     }
 }
 
 /// Writes the use of a name that is read or changed in the body of this scope.
 fn read(
     scope: &Scope,
-    scopes: &[Scope],
-    outer: &Spellings,
+    around: &Around,
     token: &Token,
     uses: &mut Vec<Use>,
 ) -> Result<(), ScopeError>
-    ensures { Writes (text.read (list_any (text.same_place token.now) (tokens_shown scope.now.early.tokens.items)) token.now (text.sees (scopes_around outer.now scopes.now) (text.name_of token.now)) (uses_shown uses.old.items)) uses.new.items result }
+    requires { IsBound around.now }
+    ensures { Writes (text.read (list_any (text.same_place token.now) (tokens_shown scope.now.early.tokens.items)) token.now (text.sees (bodies_around around.now) (text.name_of token.now)) (uses_shown uses.old.items)) uses.new.items result }
 {
     if scope.early.contains(token) {
         return Err(ScopeError::Refused(Refusal::Early(token.place)));
     }
-    used(scopes, outer, token, uses)
+    used(around, token, uses)
 }
 
 /// Writes the use of a name that is defined in the body of this scope.
 fn define(
     scope: &Scope,
-    scopes: &[Scope],
-    outer: &Spellings,
+    around: &Around,
     token: &Token,
     uses: &mut Vec<Use>,
 ) -> Result<(), ScopeError>
-    ensures { Writes (text.define (text.is_again (tokens_shown scope.now.defined.places.tokens.items) token.now) token.now (text.sees (scopes_around outer.now scopes.now) (text.name_of token.now)) (uses_shown uses.old.items)) uses.new.items result }
+    requires { IsBound around.now }
+    ensures { Writes (text.define (text.is_again (tokens_shown scope.now.defined.places.tokens.items) token.now) token.now (text.sees (bodies_around around.now) (text.name_of token.now)) (uses_shown uses.old.items)) uses.new.items result }
 {
     if is_again(scope, token) {
         return Err(ScopeError::Refused(Refusal::Redefined(token.place)));
     }
-    used(scopes, outer, token, uses)
+    used(around, token, uses)
 }
 
-/// Whether the body of this scope has a name, which is exported without a value.
-#[tactic(auto, using(crate::proofs::Uses::use_laws))]
-fn show(scope: &Scope, outer: &Spellings, token: &Token) -> Result<(), ScopeError>
-    ensures { Passes (text.has (text.names_of (scope_shown outer.now scope.now)) (text.name_of token.now)) (refusal.Undeclared token.now.place) result }
+/// Whether the last of these bodies has a name, which is exported without a value.
+fn show(around: &Around, token: &Token) -> Result<(), ScopeError>
+    requires { IsBound around.now }
+    ensures { Passes (has_last (bodies_around around.now) (text.name_of token.now)) (refusal.Undeclared token.now.place) result }
 {
-    match slot(&scope.defined, scope.in_block, outer, name_of(token)) {
-        Ok(Some(_)) => Ok(()),
-        Ok(None) => Err(ScopeError::Refused(Refusal::Undeclared(token.place))),
-        Err(_) => Err(ScopeError::Memory),
+    if around.has(name_of(token)) {
+        Ok(())
+    } else {
+        Err(ScopeError::Refused(Refusal::Undeclared(token.place)))
     }
 }
 
 /// Whether a special name stands in a block.
 #[tactic(auto, using(crate::proofs::Uses::use_laws))]
-pub fn special(scopes: &[Scope], outer: &Spellings, token: &Token) -> Result<(), ScopeError>
-    ensures { Passes (text.stands_in_block (scopes_around outer.now scopes.now)) (refusal.Undeclared token.now.place) result }
+pub fn special(around: &Around, token: &Token) -> Result<(), ScopeError>
+    ensures { Passes (text.stands_in_block (bodies_around around.now)) (refusal.Undeclared token.now.place) result }
 {
-    match scopes.split_last() {
+    match around.scopes.split_last() {
         Some((scope, _)) if scope.in_block => Ok(()),
         _ => Err(ScopeError::Refused(Refusal::Undeclared(token.place))),
     }
@@ -137,22 +133,22 @@ pub fn system(token: &Token) -> Result<(), ScopeError>
 /// A name in the innermost of these bodies.
 #[tactic(auto, using(crate::proofs::Uses::use_laws))]
 pub fn named(
-    scopes: &[Scope],
-    outer: &Spellings,
+    around: &Around,
     how: How,
     token: &Token,
     uses: &mut Vec<Use>,
 ) -> Result<(), ScopeError>
-    ensures { Writes (text.named (scopes_around outer.now scopes.now) (how_shown how) token.now (uses_shown uses.old.items)) uses.new.items result }
+    requires { IsBound around.now }
+    ensures { Writes (text.named (bodies_around around.now) (how_shown how) token.now (uses_shown uses.old.items)) uses.new.items result }
 {
-    let Some((scope, _)) = scopes.split_last() else {
+    let Some((scope, _)) = around.scopes.split_last() else {
         return Err(ScopeError::Refused(Refusal::Undeclared(token.place)));
     };
     match how {
-        How::Reads => read(scope, scopes, outer, token, uses),
-        How::Changes => read(scope, scopes, outer, token, uses),
-        How::Defines => define(scope, scopes, outer, token, uses),
-        How::Exports => define(scope, scopes, outer, token, uses),
-        How::Shows => show(scope, outer, token),
+        How::Reads => read(scope, around, token, uses),
+        How::Changes => read(scope, around, token, uses),
+        How::Defines => define(scope, around, token, uses),
+        How::Exports => define(scope, around, token, uses),
+        How::Shows => show(around, token),
     }
 }

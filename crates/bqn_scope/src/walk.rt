@@ -1,12 +1,12 @@
 ghost use Rattle.std.specs.Prelude.{◌≡◌, OnOk};
 ghost use Rattle.bqn_syntax.specs.Scope.{uses_at, uses_inside, uses_of};
-ghost use Rattle.bqn_scope.specs.Scopes.{Writes, scopes_around, uses_of_own, uses_shown};
+ghost use Rattle.bqn_scope.specs.Around.{IsBound, bodies_around};
+ghost use Rattle.bqn_scope.specs.Scopes.{Writes, uses_of_own, uses_shown};
 ghost use Rattle.bqn_scope.specs.Shown.{mention_of, mentions_shown, own_of, scopes_shown};
 
+use crate::around::Around;
 use crate::error::ScopeError;
 use crate::mention::{Mention, Own};
-use crate::scope::{Scope, scope_of};
-use crate::spellings::Spellings;
 use crate::used::{Use, named, special, system};
 use std::alloc::Global;
 
@@ -15,16 +15,17 @@ use std::alloc::Global;
 #[tactic(auto, using(crate::specs::Levels::levels, crate::proofs::Uses::walk_laws))]
 pub fn walk<'a>(
     alloc: Global,
-    outer: &Spellings,
-    scopes: &mut Vec<Scope<'a>>,
+    around: &mut Around<'a>,
     mentions: &[Mention<'a>],
     uses: &mut Vec<Use>,
 ) -> Result<(), ScopeError>
-    ensures same { OnOk result (scopes.new.items ≡ scopes.old.items) }
-    ensures uses { Writes (uses_of (scopes_around outer.now scopes.old.items) (mentions_shown mentions.now) (uses_shown uses.old.items)) uses.new.items result }
+    requires { IsBound around.old }
+    ensures bound { OnOk result (IsBound around.new) }
+    ensures same { OnOk result (bodies_around around.new ≡ bodies_around around.old) }
+    ensures uses { Writes (uses_of (bodies_around around.old) (mentions_shown mentions.now) (uses_shown uses.old.items)) uses.new.items result }
 {
     'mentions: for m in mentions {
-        match mention(alloc, outer, scopes, m, uses) {
+        match mention(alloc, around, m, uses) {
             Ok(()) => {}
             Err(error) => return Err(error),
         }
@@ -37,19 +38,20 @@ pub fn walk<'a>(
 #[tactic(auto, using(crate::specs::Levels::levels, crate::proofs::Uses::walk_laws))]
 fn mention<'a>(
     alloc: Global,
-    outer: &Spellings,
-    scopes: &mut Vec<Scope<'a>>,
+    around: &mut Around<'a>,
     m: &Mention<'a>,
     uses: &mut Vec<Use>,
 ) -> Result<(), ScopeError>
-    ensures same { OnOk result (scopes.new.items ≡ scopes.old.items) }
-    ensures uses { Writes (uses_at (scopes_around outer.now scopes.old.items) (mention_of m.now) (uses_shown uses.old.items)) uses.new.items result }
+    requires { IsBound around.old }
+    ensures bound { OnOk result (IsBound around.new) }
+    ensures same { OnOk result (bodies_around around.new ≡ bodies_around around.old) }
+    ensures uses { Writes (uses_at (bodies_around around.old) (mention_of m.now) (uses_shown uses.old.items)) uses.new.items result }
 {
     match m {
-        Mention::Named(how, token) => named(scopes.as_slice(), outer, *how, token, uses),
-        Mention::Special(token) => special(scopes.as_slice(), outer, token),
+        Mention::Named(how, token) => named(around, *how, token, uses),
+        Mention::Special(token) => special(around, token),
         Mention::System(token) => system(token),
-        Mention::Inner(bodies) => inside(alloc, outer, scopes, bodies.list(), uses),
+        Mention::Inner(bodies) => inside(alloc, around, bodies.list(), uses),
     }
 }
 
@@ -58,16 +60,17 @@ fn mention<'a>(
 #[tactic(auto, using(crate::specs::Levels::levels, crate::proofs::Uses::walk_laws))]
 fn inside<'a>(
     alloc: Global,
-    outer: &Spellings,
-    scopes: &mut Vec<Scope<'a>>,
+    around: &mut Around<'a>,
     bodies: &[Own<'a>],
     uses: &mut Vec<Use>,
 ) -> Result<(), ScopeError>
-    ensures same { OnOk result (scopes.new.items ≡ scopes.old.items) }
-    ensures uses { Writes (uses_inside (scopes_around outer.now scopes.old.items) (scopes_shown bodies.now) (uses_shown uses.old.items)) uses.new.items result }
+    requires { IsBound around.old }
+    ensures bound { OnOk result (IsBound around.new) }
+    ensures same { OnOk result (bodies_around around.new ≡ bodies_around around.old) }
+    ensures uses { Writes (uses_inside (bodies_around around.old) (scopes_shown bodies.now) (uses_shown uses.old.items)) uses.new.items result }
 {
     'bodies: for own in bodies {
-        match body(alloc, outer, scopes, own, uses) {
+        match body(alloc, around, own, uses) {
             Ok(()) => {}
             Err(error) => return Err(error),
         }
@@ -80,24 +83,24 @@ fn inside<'a>(
 #[tactic(auto, using(crate::specs::Levels::levels, crate::proofs::Uses::walk_laws))]
 fn body<'a>(
     alloc: Global,
-    outer: &Spellings,
-    scopes: &mut Vec<Scope<'a>>,
+    around: &mut Around<'a>,
     own: &Own<'a>,
     uses: &mut Vec<Use>,
 ) -> Result<(), ScopeError>
-    ensures same { OnOk result (scopes.new.items ≡ scopes.old.items) }
-    ensures uses { Writes (uses_of_own (scopes_around outer.now scopes.old.items) (own_of own.now) (uses_shown uses.old.items)) uses.new.items result }
+    requires { IsBound around.old }
+    ensures bound { OnOk result (IsBound around.new) }
+    ensures same { OnOk result (bodies_around around.new ≡ bodies_around around.old) }
+    ensures uses { Writes (uses_of_own (bodies_around around.old) (own_of own.now) (uses_shown uses.old.items)) uses.new.items result }
 {
-    let Ok(scope) = scope_of(alloc, outer, true, own.mentions.list(), own.order.list()) else {
+    let Ok(hidden) = around.enter(alloc, own) else {
         return Err(ScopeError::Memory);
     };
-    let Ok(()) = scopes.push(scope) else {
-        return Err(ScopeError::Memory);
-    };
-    match walk(alloc, outer, scopes, own.mentions.list(), uses) {
+    match walk(alloc, around, own.mentions.list(), uses) {
         Ok(()) => {}
         Err(error) => return Err(error),
     }
-    scopes.pop();
-    Ok(())
+    match around.leave(hidden.as_slice()) {
+        Ok(()) => Ok(()),
+        Err(_) => Err(ScopeError::Memory),
+    }
 }
