@@ -1,3 +1,8 @@
+pub mod Counts
+pub mod Keys
+pub mod Yielded
+pub mod Growing
+pub mod Unstarted
 pub mod Compiling
 mod Samples
 mod BodySamples

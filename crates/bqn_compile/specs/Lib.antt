@@ -6,3 +6,4 @@ pub mod Expressions
 pub mod Bodies
 pub mod Blocks
 pub mod Translation
+pub mod Shown

@@ -1,0 +1,55 @@
+ghost use Rattle.std.specs.Prelude.{◌≡◌, IfOk, OnOk};
+ghost use Rattle.bqn_scope.specs.Names.{spelled};
+ghost use Rattle.bqn_compile.specs.Pools.{name_number, constant_number, place_among};
+ghost use Rattle.bqn_compile.specs.Shown.{constants_shown, key_shown};
+ghost use Rattle.bqn_syntax.specs.Scope.{place_of};
+
+use crate::key::Key;
+use bqn_code::PatternCode;
+use indexmap::IndexSet;
+use std::alloc::Global;
+
+/// What a code pools, and how many uses and blocks come before what is read next.
+#[derive(Drop)]
+pub struct Pools {
+    pub alloc: Global,
+    pub constants: IndexSet<Key>,
+    pub names: IndexSet<Vec<char>>,
+    pub patterns: Vec<PatternCode>,
+    pub uses: u32,
+    pub blocks: u32,
+}
+
+/// The place of a name in the pool.
+fn place_of_name(names: &IndexSet<Vec<char>>, name: &[char]) -> Option<usize>
+    ensures { result ≡ place_of (spelled names.now.keys) name.now }
+{
+    names.get_index_of(name)
+}
+
+/// The number of a name in the pool; what is pooled has one.
+pub fn name_at(names: &IndexSet<Vec<char>>, name: &[char]) -> usize
+    ensures { result ≡ name_number (spelled names.now.keys) name.now }
+{
+    match place_of_name(names, name) {
+        Some(place) => place,
+        None => 0,
+    }
+}
+
+/// The place of a constant in the pool.
+pub fn place_of_constant(constants: &IndexSet<Key>, key: &Key) -> Option<usize>
+    ensures { result ≡ place_among (constants_shown constants.now.keys) (key_shown key.now) }
+{
+    constants.get_index_of(key)
+}
+
+/// The number of a constant in the pool; what is pooled has one.
+pub fn constant_at(constants: &IndexSet<Key>, key: &Key) -> usize
+    ensures { result ≡ constant_number (constants_shown constants.now.keys) (key_shown key.now) }
+{
+    match place_of_constant(constants, key) {
+        Some(place) => place,
+        None => 0,
+    }
+}
