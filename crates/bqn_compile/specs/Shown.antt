@@ -1,9 +1,12 @@
 -- What the pools and uses of the program are as plain lists.
 use Rattle.std.specs.Prelude.{◌≡◌, ℕ, List, ◌++◌, map, Result, Ok, Err}
 use Rattle.bqn_base.specs.declared.refusal.Refusal.{Refusal}
-use Rattle.bqn_scope.specs.declared.resolving.Use.{Use}
-use Rattle.bqn_scope.specs.Resolved.{use_shown}
+use Rattle.bqn_scope.specs.declared.used.Use.{Use}
+use Rattle.bqn_scope.specs.Scopes.{use_shown}
 use Rattle.bqn_scope.specs.Names.{spelled}
+use Rattle.bqn_scope.specs.Resolving.{resolution_of}
+use Rattle.bqn_scope.specs.declared.resolving.Resolved.{Resolved}
+use Rattle.bqn_syntax.specs.Bodies.{Resolution}
 use Rattle.bqn_code.specs.declared.constant.Const.{Const}
 use Rattle.bqn_code.specs.declared.constant.Const.TheVariants as const
 use Rattle.bqn_code.specs.declared.code.Block.{Block}
@@ -21,6 +24,9 @@ use Rattle.bqn_compile.specs.declared.error.CompileError.TheVariants.{Refused, M
 use Rattle.bqn_compile.specs.Gathering.{Gathered}
 use Rattle.bqn_compile.specs.Counting.{past}
 use Rattle.bqn_compile.specs.Expressions.{Setting}
+
+abbrev pub resolution_shown : Resolved → Resolution
+resolution_shown so = resolution_of so.bodies so.uses
 
 abbrev pub slot_shown : Slot → Seen
 slot_shown at = record { up = at.up; slot = at.slot }

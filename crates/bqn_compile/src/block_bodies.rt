@@ -6,7 +6,7 @@ ghost use Rattle.bqn_syntax.specs.Classes.{body_calls, has_predicate as has_pred
 ghost use Rattle.bqn_syntax.specs.Blocks.{plain_in};
 ghost use Rattle.bqn_syntax.specs.Plain.{body_of, header_of, stmt_of, bodies as plain_bodies, stmts as plain_stmts};
 ghost use Rattle.bqn_scope.specs.Names.{spelled};
-ghost use Rattle.bqn_scope.specs.Resolved.{body_shown};
+ghost use Rattle.bqn_scope.specs.Numbering.{body_shown};
 ghost use Rattle.bqn_compile.specs.Blocks.{bodies_code};
 ghost use Rattle.bqn_compile.specs.Bodies.{exports_code, kind_code};
 ghost use Rattle.bqn_compile.specs.Shown.{setting_shown};

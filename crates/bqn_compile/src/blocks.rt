@@ -2,7 +2,7 @@
 
 ghost use Rattle.std.specs.Prelude.{◌≡◌, ◌++◌, OnOk, map};
 ghost use Rattle.bqn_syntax.specs.Plain.{expr_of, part_of, step_of, derived_of, use_of, stmt_of, block_of, body_of, exprs as plain_exprs, parts as plain_parts, steps as plain_steps, deriveds as plain_deriveds, uses as plain_uses, stmts as plain_stmts, bodies as plain_bodies};
-ghost use Rattle.bqn_scope.specs.Resolved.{body_shown};
+ghost use Rattle.bqn_scope.specs.Numbering.{body_shown};
 ghost use Rattle.bqn_compile.specs.Counting as count_of;
 ghost use Rattle.bqn_compile.specs.Counting.{past as past_in};
 ghost use Rattle.bqn_compile.specs.Blocks as blocks_in;

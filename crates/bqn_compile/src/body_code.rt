@@ -3,7 +3,7 @@
 ghost use Rattle.std.specs.Prelude.{◌≡◌, ◌++◌, IfOk, OnOk, map};
 ghost use Rattle.std.specs.Option.{option_map};
 ghost use Rattle.bqn_syntax.specs.Plain.{header_of, pattern_of, stmt_of, stmts as plain_stmts};
-ghost use Rattle.bqn_scope.specs.Resolved.{use_shown};
+ghost use Rattle.bqn_scope.specs.Scopes.{use_shown};
 ghost use Rattle.bqn_compile.specs.Bodies.{argument_code, header_code, name_code, operand_code, own_instr as own_in, stmts_code};
 ghost use Rattle.bqn_compile.specs.Pools.{seen_at};
 ghost use Rattle.bqn_compile.specs.Shown.{setting_shown};

@@ -1,7 +1,7 @@
 ghost use Rattle.std.specs.Prelude.{◌≡◌};
 ghost use Rattle.bqn_compile.specs.Shown.{CompilesTo};
 ghost use Rattle.bqn_compile.specs.Translation.{translated};
-ghost use Rattle.bqn_scope.specs.Resolved.{resolution_shown};
+ghost use Rattle.bqn_compile.specs.Shown.{resolution_shown};
 ghost use Rattle.bqn_syntax.specs.Plain.{tree_of};
 
 use crate::block_bodies::body;

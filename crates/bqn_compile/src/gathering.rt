@@ -4,7 +4,7 @@ ghost use Rattle.std.specs.Prelude.{◌≡◌, map};
 ghost use Rattle.std.specs.Option.{option_map};
 ghost use Rattle.bqn_syntax.specs.Order.{Reads, Defines, by_arrow};
 ghost use Rattle.bqn_syntax.specs.Plain.{expr_of, part_of, step_of, derived_of, use_of, stmt_of, block_of, body_of, pattern_of, header_of, exprs as plain_exprs, parts as plain_parts, patterns as plain_patterns, steps as plain_steps, deriveds as plain_deriveds, uses as plain_uses, stmts as plain_stmts, bodies as plain_bodies};
-ghost use Rattle.bqn_scope.specs.Resolved.{use_shown};
+ghost use Rattle.bqn_scope.specs.Scopes.{use_shown};
 ghost use Rattle.bqn_compile.specs.Gathering as gather;
 ghost use Rattle.bqn_compile.specs.Shown.{GathersTo, gathered_shown};
 

@@ -7,7 +7,7 @@ ghost use Rattle.bqn_syntax.specs.Scope.{name_of};
 ghost use Rattle.bqn_code.specs.Plain.{ListPattern, pattern_of, patterns};
 ghost use Rattle.bqn_compile.specs.Pools.{constant_of, name_number, seen_at};
 ghost use Rattle.bqn_scope.specs.Names.{spelled};
-ghost use Rattle.bqn_scope.specs.Resolved.{use_shown};
+ghost use Rattle.bqn_scope.specs.Scopes.{use_shown};
 ghost use Rattle.bqn_compile.specs.Patterns.{pattern_code as code_in, patterns_code as all_code_in, stored_leaf as leaf_code, literal_leaf as literal_code};
 ghost use Rattle.bqn_compile.specs.Shown.{constants_shown};
 

@@ -4,7 +4,7 @@ ghost use Rattle.std.specs.Prelude.{◌≡◌, map};
 ghost use Rattle.bqn_syntax.specs.Order.{by_arrow};
 ghost use Rattle.bqn_syntax.specs.Plain.{pattern_of, patterns as plain_patterns};
 ghost use Rattle.bqn_syntax.specs.Scope.{defines as defines_in, name_of as name_in};
-ghost use Rattle.bqn_scope.specs.Resolved.{use_shown};
+ghost use Rattle.bqn_scope.specs.Scopes.{use_shown};
 ghost use Rattle.bqn_compile.specs.Pools.{constant_of};
 ghost use Rattle.bqn_compile.specs.Gathering as gather;
 ghost use Rattle.bqn_compile.specs.Shown.{GathersTo, gathered_shown};

@@ -4,7 +4,7 @@ use Rattle.std.proofs.lemmas.Iterator.Consumers.{YieldsList-end}
 use Rattle.std.proofs.lemmas.List.{map-id}
 use Rattle.bqn_syntax.specs.declared.token.Token.{Token}
 use Rattle.bqn_syntax.specs.declared.tree.Arrow.{Arrow}
-use Rattle.bqn_scope.specs.Resolved.{use_shown}
+use Rattle.bqn_scope.specs.Scopes.{use_shown}
 use Rattle.bqn_code.specs.declared.instr.Instr.{Instr}
 use Rattle.bqn_compile.specs.declared.count.Count.{Count}
 use Rattle.bqn_compile.specs.Counting.{past, in_targets}
