@@ -1,8 +1,8 @@
 pub mod Counts
 pub mod Keys
 pub mod Yielded
-pub mod Growing
-pub mod Unstarted
+pub mod Walks
+pub mod Walked
 pub mod Compiling
 mod Samples
 mod BodySamples

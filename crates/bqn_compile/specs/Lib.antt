@@ -7,3 +7,4 @@ pub mod Bodies
 pub mod Blocks
 pub mod Translation
 pub mod Shown
+pub mod Walking

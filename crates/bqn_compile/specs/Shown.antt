@@ -1,5 +1,5 @@
 -- What the pools and uses of the program are as plain lists.
-use Rattle.std.specs.Prelude.{◌≡◌, ℕ, List, ◌++◌, map, Result, Ok, Err}
+use Rattle.std.specs.Prelude.{◌≡◌, List, map, Result, Ok, Err}
 use Rattle.bqn_base.specs.declared.refusal.Refusal.{Refusal}
 use Rattle.bqn_scope.specs.declared.used.Use.{Use}
 use Rattle.bqn_scope.specs.Scopes.{use_shown}
@@ -9,7 +9,6 @@ use Rattle.bqn_scope.specs.declared.resolving.Resolved.{Resolved}
 use Rattle.bqn_syntax.specs.Bodies.{Resolution}
 use Rattle.bqn_code.specs.declared.constant.Const.{Const}
 use Rattle.bqn_code.specs.declared.constant.Const.TheVariants as const
-use Rattle.bqn_code.specs.declared.code.Block.{Block}
 use Rattle.bqn_code.specs.declared.code.Code.{Code as CodeCode}
 use Rattle.bqn_code.specs.Plain.{Code, pattern_of, code_of}
 use Rattle.bqn_syntax.specs.Scope.{Seen}
@@ -17,12 +16,9 @@ use Rattle.bqn_compile.specs.declared.leaf.Slot.{Slot}
 use Rattle.bqn_compile.specs.declared.key.Key.{Key}
 use Rattle.bqn_compile.specs.declared.key.Key.TheVariants as key
 use Rattle.bqn_compile.specs.declared.pools.Pools.{Pools}
-use Rattle.bqn_compile.specs.declared.blocks.Walk.{Walk}
-use Rattle.bqn_compile.specs.declared.count.Count.{Count}
 use Rattle.bqn_compile.specs.declared.error.CompileError.{CompileError}
 use Rattle.bqn_compile.specs.declared.error.CompileError.TheVariants.{Refused, Memory}
 use Rattle.bqn_compile.specs.Gathering.{Gathered}
-use Rattle.bqn_compile.specs.Counting.{past}
 use Rattle.bqn_compile.specs.Expressions.{Setting}
 
 abbrev pub resolution_shown : Resolved → Resolution
@@ -50,10 +46,6 @@ abbrev pub GathersTo : {A : Type 0} → Result A CompileError → Gathered → R
 GathersTo (Ok done) new answer = answer ≡ Ok new
 GathersTo (Err (Refused r)) new answer = answer ≡ Err r
 GathersTo (Err Memory) new answer = Unit {0}
-
--- blocks go behind those so far, and so much has been gone through
-abbrev pub Walks : Walk → Walk → List Block → Count → Type 0
-Walks old new blocks so = (new.blocks.items ≡ old.blocks.items ++ blocks) × (new.at ≡ past old.at so)
 
 -- a code, or a refusal, as this answer says; want of memory is free
 abbrev pub CompilesTo : Result Code Refusal → Result CodeCode CompileError → Type 0

@@ -73,24 +73,3 @@ pub fn past(c: Count, d: Count) -> Result<Count, CompileError>
         patterns: sum(c.patterns, d.patterns)?,
     })
 }
-
-fn difference(w: u32, x: u32) -> Result<u32, CompileError>
-    ensures { IfOk result (λ n. n + x ≡ w) }
-{
-    match w.checked_sub(x) {
-        Some(n) => Ok(n),
-        None => Err(CompileError::Memory),
-    }
-}
-
-/// What is left of a count without another.
-pub fn without(c: Count, d: Count) -> Result<Count, CompileError>
-    ensures { IfOk result (λ r. past_in r d ≡ c) }
-{
-    Ok(Count {
-        uses: difference(c.uses, d.uses)?,
-        blocks: difference(c.blocks, d.blocks)?,
-        bodies: difference(c.bodies, d.bodies)?,
-        patterns: difference(c.patterns, d.patterns)?,
-    })
-}

@@ -1,423 +1,403 @@
-//! The code of expressions, in the order of evaluation. `so` is what comes before in the text.
+//! The code of expressions, statements and bodies, in one walk through the text.
 
-ghost use Rattle.std.specs.Prelude.{◌≡◌, ◌++◌, ◌∷◌, [], IfOk, OnOk, length, map};
-ghost use Rattle.bqn_code.specs.declared.instr.Instr.TheVariants as instr;
-ghost use Rattle.bqn_syntax.specs.Scope.{name_of};
-ghost use Rattle.bqn_compile.specs.Pools.{name_number};
-ghost use Rattle.bqn_syntax.specs.Plain.{Value, none, expr_of, part_of, step_of, derived_of, use_of, pattern_of, exprs as plain_exprs, parts as plain_parts, steps as plain_steps, deriveds as plain_deriveds, uses as plain_uses};
-ghost use Rattle.bqn_compile.specs.Expressions.{expr_code, part_code, exprs_code, parts_code, steps_code, step_code, derived_code, uses_code, use_code, deriveds_code, targets_code, target_instr, fields_code, derives, atop_code, fork_code, parts_read};
-ghost use Rattle.bqn_scope.specs.Names.{spelled};
-ghost use Rattle.bqn_compile.specs.Shown.{setting_shown};
+ghost use Rattle.std.specs.Prelude.{◌≡◌, false, IfOk, OnOk, map, slice_get};
+ghost use Rattle.std.specs.Option.{option_map};
+ghost use Rattle.bqn_syntax.specs.Blocks.{plain_in};
+ghost use Rattle.bqn_syntax.specs.Exporting.{stmts_export};
+ghost use Rattle.bqn_syntax.specs.Plain.{Value, none, body as body_tree, expr_of, part_of, step_of, derived_of, use_of, stmt_of, block_of, body_of, header_of, exprs as plain_exprs, parts as plain_parts, steps as plain_steps, deriveds as plain_deriveds, uses as plain_uses, stmts as plain_stmts, bodies as plain_bodies};
+ghost use Rattle.bqn_compile.specs.Blocks.{bodies_code};
+ghost use Rattle.bqn_compile.specs.Bodies.{names_in};
+ghost use Rattle.bqn_compile.specs.Walking.{bodies_behind, body_behind, block_walk, body_made, derived_walk, deriveds_walk, expr_behind, expr_walk, leaves_value, list_walk, names_of, onward, part_behind, part_walk, setting_of, step_walk, steps_walk, stmt_behind, stmts_behind, strand_walk, use_walk, uses_walk, walked};
 
-use crate::count::{Count, past, without};
-use crate::counting;
+use crate::body_kinds::{and_plain, has_predicate, kind, plain_among};
+use crate::body_names::own_names;
+use crate::count::one_block;
 use crate::error::CompileError;
-use crate::leaf::{block, leaf, load, seen, store};
-use crate::pools::{Pools, name_at};
+use crate::header::header;
 use crate::read::Read;
-use bqn_code::Instr;
-use bqn_scope::Use;
-use bqn_syntax::{Arrow, Derived, Expr, Kind, ModUse, Part, Pattern, Step, Token};
-
-#[tactic(auto, using(bqn_syntax::specs::Levels::levels, crate::proofs::Growing::emit_laws))]
-fn field(pools: &Pools, name: &Token) -> Result<Instr, CompileError>
-    ensures { IfOk result (λ i. i ≡ instr.Field (name_number (spelled pools.now.names.keys) (name_of name.now))) }
-{
-    let spelling = match &name.kind {
-        Kind::Word(spelling, _) | Kind::System(spelling, _) => spelling.chars(),
-        _ => [].as_slice(),
-    };
-    match u32::try_from(name_at(&pools.names, spelling)) {
-        Ok(number) => Ok(Instr::Field(number)),
-        Err(_) => Err(CompileError::Memory),
-    }
-}
-
-#[tactic(auto, using(bqn_syntax::specs::Levels::levels, crate::proofs::Growing::emit_laws))]
-fn fields(pools: &Pools, all: &[Token], code: &mut Vec<Instr>) -> Result<(), CompileError>
-    ensures { OnOk result (code.new.items ≡ code.old.items ++ fields_code (spelled pools.now.names.keys) all.now) }
-{
-    for name in all {
-        let i = field(pools, name)?;
-        code.push(i)?;
-    }
-    Ok(())
-}
-
-#[tactic(auto, using(bqn_syntax::specs::Levels::levels, crate::proofs::Growing::emit_laws))]
-fn target(
-    uses: &[Use],
-    pools: &Pools,
-    so: Count,
-    q: &Pattern,
-    arrow: Arrow,
-) -> Result<Instr, CompileError>
-    ensures { IfOk result (λ i. i ≡ target_instr (setting_shown uses.now pools.now) so (pattern_of q.now) arrow) }
-{
-    let _ = &pools;
-    match q {
-        Pattern::Name(_) => match seen(uses, so.uses) {
-            Ok(at) => Ok(store(arrow, at)),
-            Err(e) => Err(e),
-        },
-        Pattern::Skip(_) | Pattern::Literal(_) => Ok(Instr::Bind(so.patterns)),
-        Pattern::List(_) | Pattern::Strand(_) => Ok(Instr::Bind(so.patterns)),
-    }
-}
-
-#[tactic(auto, using(bqn_syntax::specs::Levels::levels, crate::proofs::Growing::emit_laws))]
-fn targets(
-    uses: &[Use],
-    pools: &Pools,
-    so: Count,
-    all: &[(Token, Arrow)],
-    code: &mut Vec<Instr>,
-) -> Result<(), CompileError>
-    ensures { OnOk result (code.new.items ≡ code.old.items ++ targets_code (setting_shown uses.now pools.now) so all.now) }
-{
-    let mut left = counting::targets(all)?;
-    for t in all.iter().rev() {
-        left = without(left, counting::token(&t.0))?;
-        let at = seen(uses, past(so, left)?.uses)?;
-        code.push(store(t.1, at))?;
-    }
-    Ok(())
-}
+use crate::parts::{atop, derive, fields, fork};
+use crate::places::{fill, reserve};
+use crate::walk::{
+    Known, Walk, drop_value, end, length, load_here, push, skip, store_here, target, targets, token,
+    turn,
+};
+use crate::{counting, exporting, leaf};
+use bqn_base::Row;
+use bqn_code::{Body, Instr};
+use bqn_syntax::{
+    Arrow, BlockTree, BodyTree, Derived, Expr, Header, ModUse, Part, Step, Stmt,
+};
+use std::mem;
 
 #[cycle(emit)]
-#[tactic(auto, using(bqn_syntax::specs::Levels::levels, crate::proofs::Growing::emit_laws))]
-pub fn expr(
-    uses: &[Use],
-    pools: &Pools,
-    so: Count,
-    e: &Expr,
-    code: &mut Vec<Instr>,
-) -> Result<(), CompileError>
-    ensures { OnOk result (code.new.items ≡ code.old.items ++ expr_code (setting_shown uses.now pools.now) so (expr_of e.now)) }
+#[tactic(auto, using(bqn_syntax::specs::Levels::levels, crate::proofs::Walks::walk_laws))]
+fn expr(known: &Known, inside: u32, e: &Expr, out: &mut Walk) -> Result<(), CompileError>
+    ensures { OnOk result (walked out.new ≡ expr_walk (setting_of known.now) (names_of known.now) inside (expr_of e.now) (walked out.old)) }
 {
     match e {
         Expr::Value { last, steps: all } => match last {
-            None => unstarted(uses, pools, so, all.list(), code),
+            None => unstarted(known, inside, all.list(), out),
             Some(x) => {
-                part(
-                    uses,
-                    pools,
-                    past(so, counting::steps(all.list())?)?,
-                    x,
-                    code,
-                )?;
-                steps(uses, pools, so, all.list(), code)
+                steps(known, inside, all.list(), out)?;
+                part(known, inside, x, out)
             }
         },
         Expr::Train {
             targets: names,
-            parts,
+            parts: train,
         } => {
-            let inside = past(so, counting::targets(names.list())?)?;
-            deriveds(uses, pools, inside, parts.list(), code)?;
-            targets(uses, pools, so, names.list(), code)
+            targets(known, names.list(), out)?;
+            atop(Read::of(train.list().len()), out)?;
+            deriveds(known, inside, train.list(), out)
         }
         Expr::Modifier {
             targets: names,
             part: x,
         } => {
-            part(
-                uses,
-                pools,
-                past(so, counting::targets(names.list())?)?,
-                x,
-                code,
-            )?;
-            targets(uses, pools, so, names.list(), code)
+            targets(known, names.list(), out)?;
+            part(known, inside, x, out)
         }
     }
 }
 
 /// A value without a part at its end.
 #[cycle(emit)]
-#[tactic(auto, using(bqn_syntax::specs::Levels::levels, crate::proofs::Growing::emit_laws))]
+#[tactic(auto, using(bqn_syntax::specs::Levels::levels, crate::proofs::Walks::walk_laws))]
 fn unstarted(
-    uses: &[Use],
-    pools: &Pools,
-    so: Count,
+    known: &Known,
+    inside: u32,
     all: &[Step],
-    code: &mut Vec<Instr>,
+    out: &mut Walk,
 ) -> Result<(), CompileError>
-    ensures { OnOk result (code.new.items ≡ code.old.items ++ expr_code (setting_shown uses.now pools.now) so (Value none (plain_steps (map step_of all.now)))) }
+    ensures { OnOk result (walked out.new ≡ expr_walk (setting_of known.now) (names_of known.now) inside (Value none (plain_steps (map step_of all.now))) (walked out.old)) }
 {
     let Some((first, rest)) = all.split_first() else {
-        code.push(Instr::Nothing)?;
-        return Ok(());
+        return push(out, Instr::Nothing);
     };
     match first {
         Step::Modify {
             target: t,
             function,
         } => {
-            let at = past(so, counting::steps(rest)?)?;
-            let variable = seen(uses, at.uses)?;
-            code.push(load(variable))?;
-            derived(uses, pools, past(at, counting::token(t))?, function, code)?;
-            code.push(Instr::Call1)?;
-            code.push(store(Arrow::Change, variable))?;
-            steps(uses, pools, so, rest, code)
+            steps(known, inside, rest, out)?;
+            let reading = load_here(known, out)?;
+            let storing = store_here(known, Arrow::Change, out)?;
+            push(out, storing)?;
+            push(out, Instr::Call1)?;
+            skip(out, counting::token(t))?;
+            derived(known, inside, function, out)?;
+            push(out, reading)
         }
         Step::Apply { .. } => {
-            code.push(Instr::Nothing)?;
-            steps(uses, pools, so, all, code)
+            steps(known, inside, all, out)?;
+            push(out, Instr::Nothing)
         }
         Step::Assign { .. } => {
-            code.push(Instr::Nothing)?;
-            steps(uses, pools, so, all, code)
+            steps(known, inside, all, out)?;
+            push(out, Instr::Nothing)
         }
     }
 }
 
 #[cycle(emit)]
-#[tactic(auto, using(bqn_syntax::specs::Levels::levels, crate::proofs::Growing::emit_laws))]
-fn part(
-    uses: &[Use],
-    pools: &Pools,
-    so: Count,
-    x: &Part,
-    code: &mut Vec<Instr>,
-) -> Result<(), CompileError>
-    ensures { OnOk result (code.new.items ≡ code.old.items ++ part_code (setting_shown uses.now pools.now) so (part_of x.now)) }
+#[tactic(auto, using(bqn_syntax::specs::Levels::levels, crate::proofs::Walks::walk_laws))]
+fn part(known: &Known, inside: u32, x: &Part, out: &mut Walk) -> Result<(), CompileError>
+    ensures { OnOk result (walked out.new ≡ part_walk (setting_of known.now) (names_of known.now) inside (part_of x.now) (walked out.old)) }
 {
     match x {
-        Part::Leaf(t) => code.push(leaf(uses, pools, so.uses, &t.kind)?)?,
-        Part::List(all) => list(uses, pools, so, all.list(), code)?,
+        Part::Leaf(t) => token(known, t, out),
+        Part::List(all) => list(known, inside, all.list(), out),
         Part::Merge(all) => {
-            list(uses, pools, so, all.list(), code)?;
-            code.push(Instr::Given(13))?;
-            code.push(Instr::Call1)?;
+            push(out, Instr::Call1)?;
+            push(out, Instr::Given(13))?;
+            list(known, inside, all.list(), out)
         }
-        Part::Paren(inner) => expr(uses, pools, so, inner.get(), code)?,
-        Part::Block(inner) => code.push(block(inner.get().class, so.blocks)?)?,
+        Part::Paren(e) => expr(known, inside, e.get(), out),
+        Part::Block(b) => block(known, inside, b.get(), out),
         Part::Field { base, names } => {
-            part(uses, pools, so, base.get(), code)?;
-            fields(pools, names.list(), code)?;
+            fields(known, names.list(), out)?;
+            part(known, inside, base.get(), out)
         }
-        Part::Strand(all) => strand(uses, pools, so, all.list(), code)?,
-        Part::Nothing(_) => code.push(Instr::Nothing)?,
+        Part::Strand(all) => strand(known, inside, all.list(), out),
+        Part::Nothing(_) => push(out, Instr::Nothing),
     }
-    Ok(())
 }
 
+/// The elements of a list are evaluated from left to right, each of them from right to left.
 #[cycle(emit)]
-#[tactic(auto, using(bqn_syntax::specs::Levels::levels, crate::proofs::Growing::emit_laws))]
-fn list(
-    uses: &[Use],
-    pools: &Pools,
-    so: Count,
-    all: &[Expr],
-    code: &mut Vec<Instr>,
-) -> Result<(), CompileError>
-    ensures { OnOk result (code.new.items ≡ code.old.items ++ (exprs_code (setting_shown uses.now pools.now) so (plain_exprs (map expr_of all.now)) ++ instr.List (length all.now) ∷ [])) }
+#[tactic(auto, using(bqn_syntax::specs::Levels::levels, crate::proofs::Walks::walk_laws))]
+fn list(known: &Known, inside: u32, all: &[Expr], out: &mut Walk) -> Result<(), CompileError>
+    ensures { OnOk result (walked out.new ≡ list_walk (setting_of known.now) (names_of known.now) inside (plain_exprs (map expr_of all.now)) (walked out.old)) }
 {
-    let mut at = so;
+    push(out, Instr::List(length(all)?))?;
+    let from = out.code.len();
     for e in all {
-        expr(uses, pools, at, e, code)?;
-        at = past(at, counting::expr(e)?)?;
+        forward(known, inside, e, out)?;
     }
-    let Ok(many) = u32::try_from(all.len()) else {
-        return Err(CompileError::Memory);
-    };
-    code.push(Instr::List(many))?;
+    turn(out, from);
     Ok(())
 }
 
 #[cycle(emit)]
-#[tactic(auto, using(bqn_syntax::specs::Levels::levels, crate::proofs::Growing::emit_laws))]
-fn strand(
-    uses: &[Use],
-    pools: &Pools,
-    so: Count,
-    all: &[Part],
-    code: &mut Vec<Instr>,
-) -> Result<(), CompileError>
-    ensures { OnOk result (code.new.items ≡ code.old.items ++ (parts_code (setting_shown uses.now pools.now) so (plain_parts (map part_of all.now)) ++ instr.List (length all.now) ∷ [])) }
+#[tactic(auto, using(bqn_syntax::specs::Levels::levels, crate::proofs::Walks::walk_laws))]
+fn strand(known: &Known, inside: u32, all: &[Part], out: &mut Walk) -> Result<(), CompileError>
+    ensures { OnOk result (walked out.new ≡ strand_walk (setting_of known.now) (names_of known.now) inside (plain_parts (map part_of all.now)) (walked out.old)) }
 {
-    let mut at = so;
+    push(out, Instr::List(length(all)?))?;
+    let from = out.code.len();
     for x in all {
-        part(uses, pools, at, x, code)?;
-        at = past(at, counting::part(x)?)?;
+        forward_part(known, inside, x, out)?;
     }
-    let Ok(many) = u32::try_from(all.len()) else {
-        return Err(CompileError::Memory);
-    };
-    code.push(Instr::List(many))?;
+    turn(out, from);
     Ok(())
 }
 
+/// An expression whose code is done behind what is pushed.
 #[cycle(emit)]
-#[tactic(auto, using(bqn_syntax::specs::Levels::levels, crate::proofs::Growing::emit_laws))]
-fn steps(
-    uses: &[Use],
-    pools: &Pools,
-    so: Count,
-    all: &[Step],
-    code: &mut Vec<Instr>,
-) -> Result<(), CompileError>
-    ensures { OnOk result (code.new.items ≡ code.old.items ++ steps_code (setting_shown uses.now pools.now) so (plain_steps (map step_of all.now))) }
+#[tactic(auto, using(bqn_syntax::specs::Levels::levels, crate::proofs::Walks::walk_laws))]
+fn forward(known: &Known, inside: u32, e: &Expr, out: &mut Walk) -> Result<(), CompileError>
+    ensures { OnOk result (onward out.new ≡ expr_behind (setting_of known.now) (names_of known.now) inside (expr_of e.now) (onward out.old)) }
 {
-    let mut left = counting::steps(all)?;
-    for s in all {
-        left = without(left, counting::step(s)?)?;
-        step(uses, pools, past(so, left)?, s, code)?;
+    let from = out.code.len();
+    expr(known, inside, e, out)?;
+    turn(out, from);
+    Ok(())
+}
+
+#[cycle(emit)]
+#[tactic(auto, using(bqn_syntax::specs::Levels::levels, crate::proofs::Walks::walk_laws))]
+fn forward_part(
+    known: &Known,
+    inside: u32,
+    x: &Part,
+    out: &mut Walk,
+) -> Result<(), CompileError>
+    ensures { OnOk result (onward out.new ≡ part_behind (setting_of known.now) (names_of known.now) inside (part_of x.now) (onward out.old)) }
+{
+    let from = out.code.len();
+    part(known, inside, x, out)?;
+    turn(out, from);
+    Ok(())
+}
+
+/// The steps stand in the text from the last to the first.
+#[cycle(emit)]
+#[tactic(auto, using(bqn_syntax::specs::Levels::levels, crate::proofs::Walks::walk_laws))]
+fn steps(known: &Known, inside: u32, all: &[Step], out: &mut Walk) -> Result<(), CompileError>
+    ensures { OnOk result (walked out.new ≡ steps_walk (setting_of known.now) (names_of known.now) inside (plain_steps (map step_of all.now)) (walked out.old)) }
+{
+    for s in all.iter().rev() {
+        step(known, inside, s, out)?;
     }
     Ok(())
 }
 
 #[cycle(emit)]
-#[tactic(auto, using(bqn_syntax::specs::Levels::levels, crate::proofs::Growing::emit_laws))]
-fn step(
-    uses: &[Use],
-    pools: &Pools,
-    so: Count,
-    s: &Step,
-    code: &mut Vec<Instr>,
-) -> Result<(), CompileError>
-    ensures { OnOk result (code.new.items ≡ code.old.items ++ step_code (setting_shown uses.now pools.now) so (step_of s.now)) }
+#[tactic(auto, using(bqn_syntax::specs::Levels::levels, crate::proofs::Walks::walk_laws))]
+fn step(known: &Known, inside: u32, s: &Step, out: &mut Walk) -> Result<(), CompileError>
+    ensures { OnOk result (walked out.new ≡ step_walk (setting_of known.now) (names_of known.now) inside (step_of s.now) (walked out.old)) }
 {
     match s {
-        Step::Apply { function, left } => match left {
-            None => {
-                derived(uses, pools, so, function, code)?;
-                code.push(Instr::Call1)?;
+        Step::Apply { function, left } => {
+            match left {
+                None => push(out, Instr::Call1)?,
+                Some(w) => {
+                    push(out, Instr::Call2)?;
+                    part(known, inside, w, out)?;
+                }
             }
-            Some(w) => {
-                derived(uses, pools, past(so, counting::part(w)?)?, function, code)?;
-                part(uses, pools, so, w, code)?;
-                code.push(Instr::Call2)?;
-            }
-        },
-        Step::Assign { target: q, arrow } => code.push(target(uses, pools, so, q, *arrow)?)?,
+            derived(known, inside, function, out)
+        }
+        Step::Assign { target: q, arrow } => target(known, q, *arrow, out),
         Step::Modify {
             target: t,
             function,
         } => {
-            derived(uses, pools, past(so, counting::token(t))?, function, code)?;
-            let at = seen(uses, so.uses)?;
-            code.push(load(at))?;
-            code.push(Instr::Call2)?;
-            code.push(store(Arrow::Change, at))?;
+            let reading = load_here(known, out)?;
+            let storing = store_here(known, Arrow::Change, out)?;
+            push(out, storing)?;
+            push(out, Instr::Call2)?;
+            push(out, reading)?;
+            skip(out, counting::token(t))?;
+            derived(known, inside, function, out)
         }
     }
-    Ok(())
 }
 
 #[cycle(emit)]
-#[tactic(auto, using(bqn_syntax::specs::Levels::levels, crate::proofs::Growing::emit_laws))]
-fn derived(
-    uses: &[Use],
-    pools: &Pools,
-    so: Count,
-    d: &Derived,
-    code: &mut Vec<Instr>,
-) -> Result<(), CompileError>
-    ensures { OnOk result (code.new.items ≡ code.old.items ++ derived_code (setting_shown uses.now pools.now) so (derived_of d.now)) }
+#[tactic(auto, using(bqn_syntax::specs::Levels::levels, crate::proofs::Walks::walk_laws))]
+fn derived(known: &Known, inside: u32, d: &Derived, out: &mut Walk) -> Result<(), CompileError>
+    ensures { OnOk result (walked out.new ≡ derived_walk (setting_of known.now) (names_of known.now) inside (derived_of d.now) (walked out.old)) }
 {
-    let inside = past(so, counting::part(&d.first)?)?;
-    mod_uses(uses, pools, inside, d.uses.list(), code)?;
-    part(uses, pools, so, &d.first, code)?;
-    derive(d.uses.list(), code)
+    derive(d.uses.list(), out)?;
+    part(known, inside, &d.first, out)?;
+    mod_uses(known, inside, d.uses.list(), out)
 }
 
 #[cycle(emit)]
-#[tactic(auto, using(bqn_syntax::specs::Levels::levels, crate::proofs::Growing::emit_laws))]
+#[tactic(auto, using(bqn_syntax::specs::Levels::levels, crate::proofs::Walks::walk_laws))]
 fn mod_uses(
-    uses: &[Use],
-    pools: &Pools,
-    so: Count,
+    known: &Known,
+    inside: u32,
     all: &[ModUse],
-    code: &mut Vec<Instr>,
+    out: &mut Walk,
 ) -> Result<(), CompileError>
-    ensures { OnOk result (code.new.items ≡ code.old.items ++ uses_code (setting_shown uses.now pools.now) so (plain_uses (map use_of all.now))) }
-{
-    let mut left = counting::uses(all)?;
-    for u in all.iter().rev() {
-        left = without(left, counting::mod_use(u)?)?;
-        mod_use(uses, pools, past(so, left)?, u, code)?;
-    }
-    Ok(())
-}
-
-#[cycle(emit)]
-#[tactic(auto, using(bqn_syntax::specs::Levels::levels, crate::proofs::Growing::emit_laws))]
-fn mod_use(
-    uses: &[Use],
-    pools: &Pools,
-    so: Count,
-    u: &ModUse,
-    code: &mut Vec<Instr>,
-) -> Result<(), CompileError>
-    ensures { OnOk result (code.new.items ≡ code.old.items ++ use_code (setting_shown uses.now pools.now) so (use_of u.now)) }
-{
-    match u {
-        ModUse::One(m) => part(uses, pools, so, m, code),
-        ModUse::Two(m, x) => {
-            part(uses, pools, past(so, counting::part(m)?)?, x, code)?;
-            part(uses, pools, so, m, code)
-        }
-    }
-}
-
-/// What the modifiers make, once all parts are there.
-#[tactic(auto, using(bqn_syntax::specs::Levels::levels, crate::proofs::Growing::emit_laws))]
-fn derive(all: &[ModUse], code: &mut Vec<Instr>) -> Result<(), CompileError>
-    ensures { OnOk result (code.new.items ≡ code.old.items ++ derives (plain_uses (map use_of all.now))) }
+    ensures { OnOk result (walked out.new ≡ uses_walk (setting_of known.now) (names_of known.now) inside (plain_uses (map use_of all.now)) (walked out.old)) }
 {
     for u in all {
-        let i = match u {
-            ModUse::One(_) => Instr::Derive1,
-            ModUse::Two(_, _) => Instr::Derive2,
-        };
-        code.push(i)?;
+        mod_use(known, inside, u, out)?;
     }
     Ok(())
 }
 
-/// Behind one more part, that part and two others are made one.
-fn fork(read: Read, code: &mut Vec<Instr>) -> Result<(), CompileError>
-    ensures { OnOk result (code.new.items ≡ code.old.items ++ fork_code read) }
-{
-    match read {
-        Read::Two => code.push(Instr::Train3)?,
-        Read::No | Read::One => {}
-    }
-    Ok(())
-}
-
-fn atop(read: Read, code: &mut Vec<Instr>) -> Result<(), CompileError>
-    ensures { OnOk result (code.new.items ≡ code.old.items ++ atop_code read) }
-{
-    match read {
-        Read::Two => code.push(Instr::Train2)?,
-        Read::No | Read::One => {}
-    }
-    Ok(())
-}
-
-/// The parts of a train, from the right, and the train.
 #[cycle(emit)]
-#[tactic(auto, using(bqn_syntax::specs::Levels::levels, crate::proofs::Growing::emit_laws))]
-fn deriveds(
-    uses: &[Use],
-    pools: &Pools,
-    so: Count,
-    all: &[Derived],
-    code: &mut Vec<Instr>,
-) -> Result<(), CompileError>
-    ensures { OnOk result (code.new.items ≡ code.old.items ++ (deriveds_code (setting_shown uses.now pools.now) so (plain_deriveds (map derived_of all.now)) ++ atop_code (parts_read (plain_deriveds (map derived_of all.now))))) }
+#[tactic(auto, using(bqn_syntax::specs::Levels::levels, crate::proofs::Walks::walk_laws))]
+fn mod_use(known: &Known, inside: u32, u: &ModUse, out: &mut Walk) -> Result<(), CompileError>
+    ensures { OnOk result (walked out.new ≡ use_walk (setting_of known.now) (names_of known.now) inside (use_of u.now) (walked out.old)) }
 {
-    let mut left = counting::deriveds(all)?;
-    let mut read = Read::No;
-    for d in all.iter().rev() {
-        left = without(left, counting::derived(d)?)?;
-        derived(uses, pools, past(so, left)?, d, code)?;
-        fork(read, code)?;
-        read = read.and_one();
+    match u {
+        ModUse::One(m) => part(known, inside, m, out),
+        ModUse::Two(m, x) => {
+            part(known, inside, m, out)?;
+            part(known, inside, x, out)
+        }
     }
-    atop(read, code)
+}
+
+/// The parts of a train, and what is made of them as they are read from the right.
+#[cycle(emit)]
+#[tactic(auto, using(bqn_syntax::specs::Levels::levels, crate::proofs::Walks::walk_laws))]
+fn deriveds(
+    known: &Known,
+    inside: u32,
+    all: &[Derived],
+    out: &mut Walk,
+) -> Result<(), CompileError>
+    ensures { OnOk result (walked out.new ≡ deriveds_walk (setting_of known.now) (names_of known.now) inside (plain_deriveds (map derived_of all.now)) (walked out.old)) }
+{
+    let mut right = all.len();
+    for d in all {
+        right -= 1;
+        fork(Read::of(right), out)?;
+        derived(known, inside, d, out)?;
+    }
+    Ok(())
+}
+
+/// A block, which stands before those inside it.
+#[cycle(emit)]
+#[tactic(auto, using(bqn_syntax::specs::Levels::levels, crate::proofs::Walks::walk_laws))]
+fn block(known: &Known, inside: u32, b: &BlockTree, out: &mut Walk) -> Result<(), CompileError>
+    ensures { OnOk result (walked out.new ≡ block_walk (setting_of known.now) (names_of known.now) inside (block_of b.now) (walked out.old)) }
+{
+    let first = out.at.bodies;
+    push(out, leaf::block(b.class, out.at.blocks)?)?;
+    skip(out, one_block(length(b.bodies.list())?))?;
+    let place = reserve(known, b.class, inside, out)?;
+    let made = bodies(known, first, b.bodies.list(), out)?;
+    fill(out, place, made);
+    Ok(())
+}
+
+/// The bodies of a block, the first of which has this number.
+#[cycle(emit)]
+#[tactic(auto, using(bqn_syntax::specs::Levels::levels, crate::proofs::Walks::walk_laws))]
+fn bodies(
+    known: &Known,
+    first: u32,
+    all: &[BodyTree],
+    out: &mut Walk,
+) -> Result<Row<Body>, CompileError>
+    ensures made { IfOk result (λ r. r ≡ bodies_code (setting_of known.now) (names_of known.now) (plain_in (plain_bodies (map body_of all.now))) 0 first (onward out.old).at (plain_bodies (map body_of all.now))) }
+    ensures walk { OnOk result (onward out.new ≡ bodies_behind (setting_of known.now) (names_of known.now) first (plain_bodies (map body_of all.now)) (onward out.old)) }
+{
+    let plain = plain_among(all)?;
+    let mut made = Vec::new(known.pools.alloc);
+    let mut before: u32 = 0;
+    let mut number = first;
+    for b in all {
+        let statements = b.statements.list();
+        let kind = kind(plain, before, &b.header, has_predicate(statements));
+        let own = body(known, number, kind, &b.header, statements, out)?;
+        made.push(own)?;
+        let Some(next) = number.checked_add(1) else {
+            return Err(CompileError::Memory);
+        };
+        number = next;
+        before = and_plain(b, before)?;
+    }
+    Ok(Row::new(made))
+}
+
+/// The body with this number and kind.
+#[cycle(emit)]
+#[tactic(auto, using(bqn_syntax::specs::Levels::levels, crate::proofs::Walks::walk_laws))]
+pub fn body(
+    known: &Known,
+    number: u32,
+    kind: u8,
+    h: &Option<Header>,
+    all: &[Stmt],
+    out: &mut Walk,
+) -> Result<Body, CompileError>
+    ensures made { IfOk result (λ b. b ≡ body_made (setting_of known.now) (names_in (slice_get (names_of known.now) number)) kind (onward out.old).at (body_tree (option_map header_of h.now) (plain_stmts (map stmt_of all.now)))) }
+    ensures walk { OnOk result (onward out.new ≡ body_behind (setting_of known.now) (names_of known.now) number (body_tree (option_map header_of h.now) (plain_stmts (map stmt_of all.now))) (onward out.old)) }
+{
+    let around = mem::replace(&mut out.code, Vec::new(known.pools.alloc));
+    header(known, h, out)?;
+    statements(known, number, all, out)?;
+    let code = mem::replace(&mut out.code, around);
+    let own = own_names(known, number)?;
+    Ok(Body {
+        kind,
+        slots: own.0,
+        exports: own.1,
+        code: Row::new(code),
+    })
+}
+
+/// The statements of the body with this number, and its end.
+#[cycle(emit)]
+#[tactic(auto, using(bqn_syntax::specs::Levels::levels, crate::proofs::Walks::walk_laws))]
+fn statements(
+    known: &Known,
+    inside: u32,
+    all: &[Stmt],
+    out: &mut Walk,
+) -> Result<(), CompileError>
+    ensures { OnOk result (onward out.new ≡ stmts_behind (setting_of known.now) (names_of known.now) inside false (stmts_export (plain_stmts (map stmt_of all.now))) (plain_stmts (map stmt_of all.now)) (onward out.old)) }
+{
+    let mut left = false;
+    for s in all {
+        left = statement(known, inside, left, s, out)?;
+    }
+    end(exporting::statements(all), left, out)
+}
+
+/// A statement behind one that has left a value, or has not; whether it leaves one.
+#[cycle(emit)]
+#[tactic(auto, using(bqn_syntax::specs::Levels::levels, crate::proofs::Walks::walk_laws))]
+fn statement(
+    known: &Known,
+    inside: u32,
+    left: bool,
+    s: &Stmt,
+    out: &mut Walk,
+) -> Result<bool, CompileError>
+    ensures leaves { IfOk result (λ leaves. leaves ≡ leaves_value (stmt_of s.now)) }
+    ensures walk { OnOk result (onward out.new ≡ stmt_behind (setting_of known.now) (names_of known.now) inside left (stmt_of s.now) (onward out.old)) }
+{
+    drop_value(left, out)?;
+    match s {
+        Stmt::Eval(e) => {
+            forward(known, inside, e, out)?;
+            Ok(true)
+        }
+        Stmt::Predicate(e) => {
+            forward(known, inside, e, out)?;
+            push(out, Instr::Check)?;
+            Ok(false)
+        }
+        Stmt::Export(_) => Ok(false),
+    }
 }

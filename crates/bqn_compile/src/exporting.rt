@@ -26,7 +26,6 @@ fn targets(all: &[(Token, Arrow)]) -> bool
     false
 }
 
-#[cycle(exports)]
 #[tactic(auto, using(bqn_syntax::specs::Levels::levels))]
 pub fn statements(all: &[Stmt]) -> bool
     ensures { result ≡ exporting.stmts_export (plain_stmts (map stmt_of all.now)) }
@@ -39,7 +38,6 @@ pub fn statements(all: &[Stmt]) -> bool
     false
 }
 
-#[cycle(exports)]
 #[tactic(auto, using(bqn_syntax::specs::Levels::levels))]
 fn statement(s: &Stmt) -> bool
     ensures { result ≡ exporting.stmt_exports (stmt_of s.now) }

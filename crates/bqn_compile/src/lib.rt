@@ -2,9 +2,9 @@
 //! `specs/`.
 #![tactic(auto)]
 
-mod block_bodies;
 mod blocks;
-mod body_code;
+mod body_kinds;
+mod body_names;
 mod compiling;
 mod count;
 mod counting;
@@ -12,12 +12,16 @@ mod emitting;
 mod error;
 mod exporting;
 mod gathering;
+mod header;
 mod key;
 mod leaf;
+mod parts;
 mod patterns;
+mod places;
 mod pooling;
 mod pools;
 mod read;
+mod walk;
 
 pub use compiling::compile;
 pub use error::CompileError;

@@ -1,5 +1,5 @@
 ghost use Rattle.std.specs.Prelude.{◌≡◌};
-ghost use Rattle.bqn_compile.specs.Expressions.{and_one as and_one_in};
+ghost use Rattle.bqn_compile.specs.Walking.{reads};
 
 /// How many parts of a train are read from the right, two with one more in front being made one.
 #[derive(Clone, Copy, Debug, PartialEq, Eq)]
@@ -10,14 +10,16 @@ pub enum Read {
 }
 
 impl Read {
-    /// With one more part in front.
-    pub fn and_one(self) -> Read
-        ensures { result ≡ and_one_in self }
+    /// Of so many parts.
+    pub fn of(parts: usize) -> Read
+        ensures { result ≡ reads parts }
     {
-        match self {
-            Read::No => Read::One,
-            Read::One => Read::Two,
-            Read::Two => Read::One,
+        if parts == 0 {
+            Read::No
+        } else if parts % 2 == 1 {
+            Read::One
+        } else {
+            Read::Two
         }
     }
 }
