@@ -15,6 +15,7 @@ use Rattle.bqn_compile.specs.Pools.{seen_at}
 use Rattle.bqn_compile.specs.Expressions.{Setting, load, store, leaf_instr, target_instr, targets_code, fields_code, parts_read, fork_code, atop_code, derives, how_many_exprs, how_many_parts, expr_code, part_code, steps_code, step_code, derived_code, uses_code, use_code, deriveds_code, exprs_code, parts_code}
 use Rattle.bqn_compile.specs.Blocks.{expr_blocks, part_blocks, steps_blocks, step_blocks, derived_blocks, uses_blocks, use_blocks, deriveds_blocks, exprs_blocks, parts_blocks, blocks_from}
 use Rattle.bqn_compile.specs.Walking.{Walked, skip, push, pushes, ahead, load_at, store_at, token_walk, target_walk, targets_walk, list_walk, strand_walk, block_walk, expr_walk, part_walk, steps_walk, step_walk, derived_walk, uses_walk, use_walk, deriveds_walk}
+use Rattle.bqn_compile.proofs.Walks.{push-is}
 use Rattle.bqn_compile.proofs.Counts.{past-assoc, past-nothing, nothing-past}
 
 module _ (so to : Count) (is js : List Instr) (bs cs : List Block) (w : Walked) where
@@ -33,10 +34,6 @@ module _ (so to : Count) (is js : List Instr) (bs cs : List Block) (w : Walked) 
   pub ahead-skip : ahead to js cs (skip so w) ≡ ahead (past so to) js cs w
   unfolding ahead skip
   ahead-skip = λ i. record { at = past-assoc w.at so to i; code = js ++ w.code; blocks = w.blocks ++ cs }
-
-pub push-is : (x : Instr) (w : Walked) → push x w ≡ pushes (x ∷ []) w
-unfolding push pushes
-push-is x w = refl
 
 pub nothing-ahead : (w : Walked) → w ≡ ahead nothing [] [] w
 unfolding ahead

@@ -1,7 +1,13 @@
 -- One thing more in a walk.
-use Rattle.std.proofs.Common.{◌≡◌, ◌++◌, List, [], ◌∷◌, reverse, refl, sym, ap, ◌∙◌, append_assoc}
+use Rattle.std.proofs.Common.{◌≡◌, ℕ, ◌++◌, List, [], ◌∷◌, reverse, refl, sym, ap, ◌∙◌, append_assoc}
 use Rattle.std.proofs.lemmas.List.{reverse-append, append-nil}
+use Rattle.bqn_syntax.specs.declared.token.Token.{Token}
+use Rattle.bqn_syntax.specs.Plain.{Use, uses}
+use Rattle.bqn_syntax.specs.Scope.{name_of}
 use Rattle.bqn_code.specs.declared.instr.Instr.{Instr}
+use Rattle.bqn_code.specs.declared.instr.Instr.TheVariants as instr
+use Rattle.bqn_compile.specs.Expressions.{fields_code, derives, derive_instr}
+use Rattle.bqn_compile.specs.Pools.{name_number}
 use Rattle.bqn_compile.specs.declared.count.Count.{Count}
 use Rattle.bqn_compile.specs.declared.walk.Walk.{Walk}
 use Rattle.bqn_compile.specs.Walking.{Walked, walked, onward, push, pushes, append}
@@ -33,5 +39,19 @@ pub append-none : (w : Walked) → append [] w ≡ w
 unfolding append
 append-none w = λ i. record { at = w.at; code = append-nil w.code i; blocks = w.blocks }
 
-pub ruleset push_laws = (reverse-push, walked-at, onward-at, push-pushes, pushes-none, append-append, append-none)
+pub push-is : (x : Instr) (w : Walked) → push x w ≡ pushes (x ∷ []) w
+unfolding push pushes
+push-is x w = refl
+
+-- one more from the end
+module _ (w v u : Walked) (i : Instr) where
+  pub fields-step : (names : List (List ℕ)) (t : Token) (ts next : List Token) → next ≡ t ∷ ts → i ≡ instr.Field (name_number names (name_of t)) → v ≡ pushes (fields_code names ts) w → u ≡ push i v → u ≡ pushes (fields_code names next) w
+  fields-step names t ts next n e p q =
+      q ∙ ap (push i) p ∙ push-pushes i (fields_code names ts) w ∙ ap (λ (x : Instr). pushes (x ∷ fields_code names ts) w) e ∙ ap (λ (xs : List Token). pushes (fields_code names xs) w) (sym n)
+
+  pub derive-step : (x : Use) (us next : List Use) → next ≡ x ∷ us → i ≡ derive_instr x → v ≡ pushes (derives (uses us)) w → u ≡ push i v → u ≡ pushes (derives (uses next)) w
+  derive-step x us next n e p q =
+      q ∙ ap (push i) p ∙ push-pushes i (derives (uses us)) w ∙ ap (λ (y : Instr). pushes (y ∷ derives (uses us)) w) e ∙ ap (λ (xs : List Use). pushes (derives (uses xs)) w) (sym n)
+
+pub ruleset push_laws = (reverse-push, walked-at, onward-at, push-is, pushes-none, append-append, append-none)
 pub ruleset walk_laws = (walked-at, onward-at)

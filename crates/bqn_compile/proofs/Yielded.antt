@@ -14,3 +14,7 @@ map-backward {B = B} f (x ∷ xs) = ap (map f) (reverse-append (x ∷ []) xs) �
 -- the items that a loop from the end has had, from the last one
 pub all-yielded : {A B : Type 0} (f : A → B) (all : List A) (yielded : List (Bor A)) → map (λ y. y.now) yielded ≡ reverse all → map (λ y. f y.now) (reverse yielded) ≡ map f all
 all-yielded f all yielded e = through f (reverse yielded) ∙ ap (map f) (map-backward (λ y. y.now) yielded ∙ ap reverse e ∙ reverse-reverse all)
+
+-- one more that is yielded from the end
+pub yielded-more : {A B : Type 0} (f : A → B) (yielded : List (Bor A)) (x : Bor A) → map (λ y. f y.now) (reverse (yielded ++ x ∷ [])) ≡ f x.now ∷ map (λ y. f y.now) (reverse yielded)
+yielded-more f yielded x = ap (map (λ y. f y.now)) (reverse-append yielded (x ∷ []))

@@ -4,7 +4,7 @@ ghost use Rattle.std.specs.Prelude.{◌≡◌, IfOk, OnOk, map};
 ghost use Rattle.bqn_syntax.specs.Plain.{use_of, uses as plain_uses};
 ghost use Rattle.bqn_syntax.specs.Scope.{name_of};
 ghost use Rattle.bqn_code.specs.declared.instr.Instr.TheVariants as instr;
-ghost use Rattle.bqn_compile.specs.Expressions.{atop_code, derives, fields_code, fork_code};
+ghost use Rattle.bqn_compile.specs.Expressions.{atop_code, derive_instr, derives, fields_code, fork_code};
 ghost use Rattle.bqn_compile.specs.Pools.{name_number};
 ghost use Rattle.bqn_compile.specs.Walking.{pushes, setting_of, walked};
 
@@ -38,17 +38,23 @@ pub fn fields(known: &Known, all: &[Token], out: &mut Walk) -> Result<(), Compil
     Ok(())
 }
 
+#[tactic(auto, using(bqn_syntax::specs::Levels::levels))]
+fn derived_instr(u: &ModUse) -> Instr
+    ensures { result ≡ derive_instr (use_of u.now) }
+{
+    match u {
+        ModUse::One(_) => Instr::Derive1,
+        ModUse::Two(_, _) => Instr::Derive2,
+    }
+}
+
 /// What the modifiers behind a part make, once all parts are there.
 #[tactic(auto, using(bqn_syntax::specs::Levels::levels, crate::proofs::Walks::push_laws))]
 pub fn derive(all: &[ModUse], out: &mut Walk) -> Result<(), CompileError>
     ensures { OnOk result (walked out.new ≡ pushes (derives (plain_uses (map use_of all.now))) (walked out.old)) }
 {
     for u in all.iter().rev() {
-        let i = match u {
-            ModUse::One(_) => Instr::Derive1,
-            ModUse::Two(_, _) => Instr::Derive2,
-        };
-        push(out, i)?;
+        push(out, derived_instr(u))?;
     }
     Ok(())
 }
@@ -59,9 +65,10 @@ pub fn fork(read: Read, out: &mut Walk) -> Result<(), CompileError>
     ensures { OnOk result (walked out.new ≡ pushes (fork_code read) (walked out.old)) }
 {
     match read {
-        Read::Two => push(out, Instr::Train3),
-        Read::No | Read::One => Ok(()),
+        Read::Two => push(out, Instr::Train3)?,
+        Read::No | Read::One => {}
     }
+    Ok(())
 }
 
 #[tactic(auto, using(crate::proofs::Walks::push_laws))]
@@ -69,7 +76,8 @@ pub fn atop(read: Read, out: &mut Walk) -> Result<(), CompileError>
     ensures { OnOk result (walked out.new ≡ pushes (atop_code read) (walked out.old)) }
 {
     match read {
-        Read::Two => push(out, Instr::Train2),
-        Read::No | Read::One => Ok(()),
+        Read::Two => push(out, Instr::Train2)?,
+        Read::No | Read::One => {}
     }
+    Ok(())
 }
