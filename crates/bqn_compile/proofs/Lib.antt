@@ -3,6 +3,10 @@ pub mod Keys
 pub mod Yielded
 pub mod Walks
 pub mod Walked
+pub mod Onward
+pub mod Turning
+pub mod Bodies
+pub mod Headers
 pub mod Compiling
 mod Samples
 mod BodySamples

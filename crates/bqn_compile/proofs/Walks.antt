@@ -1,16 +1,17 @@
 -- One thing more in a walk.
-use Rattle.std.proofs.Common.{◌≡◌, ℕ, ◌++◌, List, [], ◌∷◌, reverse, refl, sym, ap, ◌∙◌, append_assoc}
-use Rattle.std.proofs.lemmas.List.{reverse-append, append-nil}
+use Rattle.std.proofs.Common.{◌≡◌, ℕ, suc, ◌≤◌, ◌++◌, List, [], ◌∷◌, length, map, take, drop, reverse, refl, sym, ap, ◌∙◌, append_assoc}
+use Rattle.std.proofs.lemmas.List.{reverse-append, append-nil, take_all, drop_all}
 use Rattle.bqn_syntax.specs.declared.token.Token.{Token}
-use Rattle.bqn_syntax.specs.Plain.{Use, uses}
+use Rattle.bqn_syntax.specs.declared.tree.Derived.{Derived as CodeDerived}
+use Rattle.bqn_syntax.specs.Plain.{Use, uses, deriveds, derived_of}
 use Rattle.bqn_syntax.specs.Scope.{name_of}
 use Rattle.bqn_code.specs.declared.instr.Instr.{Instr}
 use Rattle.bqn_code.specs.declared.instr.Instr.TheVariants as instr
-use Rattle.bqn_compile.specs.Expressions.{fields_code, derives, derive_instr}
+use Rattle.bqn_compile.specs.Expressions.{fields_code, derives, derive_instr, and_one, parts_read}
 use Rattle.bqn_compile.specs.Pools.{name_number}
 use Rattle.bqn_compile.specs.declared.count.Count.{Count}
 use Rattle.bqn_compile.specs.declared.walk.Walk.{Walk}
-use Rattle.bqn_compile.specs.Walking.{Walked, walked, onward, push, pushes, append}
+use Rattle.bqn_compile.specs.Walking.{Walked, walked, onward, turned, push, pushes, append, reads}
 
 pub reverse-push : (is : List Instr) (i : Instr) → reverse (is ++ i ∷ []) ≡ i ∷ reverse is
 reverse-push is i = reverse-append is (i ∷ [])
@@ -43,6 +44,15 @@ pub push-is : (x : Instr) (w : Walked) → push x w ≡ pushes (x ∷ []) w
 unfolding push pushes
 push-is x w = refl
 
+-- nothing is turned round behind the end
+pub turned-none : (n : ℕ) (w : Walked) → length w.code ≤ n → turned n w ≡ w
+unfolding turned
+turned-none n w h = λ i. record { at = w.at; code = (ap (λ (is : List Instr). is ++ reverse (drop n w.code)) (take_all n w.code h) ∙ ap (λ (is : List Instr). w.code ++ reverse is) (drop_all n w.code h) ∙ append-nil w.code) i; blocks = w.blocks }
+
+pub parts-read : (ds : List CodeDerived) → parts_read (deriveds (map derived_of ds)) ≡ reads (length ds)
+parts-read [] = refl
+parts-read (d ∷ ds) = ap and_one (parts-read ds)
+
 -- one more from the end
 module _ (w v u : Walked) (i : Instr) where
   pub fields-step : (names : List (List ℕ)) (t : Token) (ts next : List Token) → next ≡ t ∷ ts → i ≡ instr.Field (name_number names (name_of t)) → v ≡ pushes (fields_code names ts) w → u ≡ push i v → u ≡ pushes (fields_code names next) w
@@ -54,4 +64,4 @@ module _ (w v u : Walked) (i : Instr) where
       q ∙ ap (push i) p ∙ push-pushes i (derives (uses us)) w ∙ ap (λ (y : Instr). pushes (y ∷ derives (uses us)) w) e ∙ ap (λ (xs : List Use). pushes (derives (uses xs)) w) (sym n)
 
 pub ruleset push_laws = (reverse-push, walked-at, onward-at, push-is, pushes-none, append-append, append-none)
-pub ruleset walk_laws = (walked-at, onward-at)
+pub ruleset walk_laws = (walked-at, onward-at, parts-read)

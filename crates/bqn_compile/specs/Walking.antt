@@ -96,7 +96,7 @@ module _ (g : Setting) where
 -- ---- headers
 
 -- whether a pattern asks for something
-abbrev asks_kind : Kind → Bool
+abbrev pub asks_kind : Kind → Bool
 asks_kind (kind.Special s r) = false
 asks_kind k = true
 
@@ -236,7 +236,7 @@ module _ (g : Setting) (names : List BodyNames) (inside : ℕ) where
 unfoldable pub reserved : Block → Walked → Walked
 reserved b w = record { at = w.at; code = w.code; blocks = w.blocks ++ b ∷ [] }
 
-abbrev with_bodies : List Body → Block → Block
+abbrev pub with_bodies : List Body → Block → Block
 with_bodies bodies b = record b { bodies = bodies }
 
 abbrev pub filled_at : ℕ → List Body → List Block → List Block

@@ -10,6 +10,7 @@ use crate::pools::name_at;
 use crate::walk::Known;
 use bqn_base::{Name, Row};
 
+#[tactic(auto, using(crate::proofs::Walks::walk_laws), unfolding(crate::specs::Walking::setting_of))]
 fn export(known: &Known, e: &(Name, u32)) -> Result<(u32, u16), CompileError>
     ensures { IfOk result (λ r. r ≡ (name_number (setting_of known.now).names e.now.0, e.now.1)) }
 {

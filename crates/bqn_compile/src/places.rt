@@ -10,6 +10,7 @@ use bqn_code::{Block, Body};
 use bqn_syntax::Class;
 
 /// A place for a block behind those so far, before those inside it.
+#[tactic(auto, using(crate::proofs::Walks::walk_laws), unfolding(crate::specs::Walking::onward, crate::specs::Walking::reserved))]
 pub fn reserve(
     known: &Known,
     class: Class,

@@ -1,6 +1,6 @@
 //! A walk through the text of a program, and what it makes of single tokens.
 
-ghost use Rattle.std.specs.Prelude.{◌≡◌, ◌≤◌, [], ◌∷◌, IfOk, OnOk, length as list_length};
+ghost use Rattle.std.specs.Prelude.{◌≡◌, [], ◌∷◌, IfOk, OnOk, length as list_length};
 ghost use Rattle.bqn_syntax.specs.Plain.{pattern_of};
 ghost use Rattle.bqn_compile.specs.Walking.{append, drop_code, ending, load_at, onward, push as pushed, setting_of, skip as skipped, store_at, target_walk, targets_walk, token_walk, turned, walked};
 
@@ -52,10 +52,11 @@ pub fn push(out: &mut Walk, i: Instr) -> Result<(), CompileError>
 /// Turns round what is pushed behind so many instructions.
 #[tactic(auto, using(crate::proofs::Walks::push_laws), unfolding(crate::specs::Walking::onward, crate::specs::Walking::turned))]
 pub fn turn(out: &mut Walk, from: usize)
-    requires { from ≤ list_length out.old.code.items }
     ensures { onward out.new ≡ turned from (onward out.old) }
 {
-    out.code[from..].reverse();
+    if from < out.code.len() {
+        out.code[from..].reverse();
+    }
 }
 
 /// The value that a statement has left is dropped before the next one.
