@@ -7,6 +7,9 @@ pub mod Onward
 pub mod Turning
 pub mod Bodies
 pub mod Headers
+pub mod Loops
+pub mod Reading
+pub mod Unstarted
 pub mod Compiling
 mod Samples
 mod BodySamples

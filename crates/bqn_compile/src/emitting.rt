@@ -358,7 +358,7 @@ pub fn body(
 
 /// The statements of the body with this number, and its end.
 #[cycle(emit)]
-#[tactic(auto, using(bqn_syntax::specs::Levels::levels, crate::proofs::Walks::walk_laws))]
+#[tactic(auto, using(bqn_syntax::specs::Levels::levels, crate::proofs::Walks::walk_laws, crate::proofs::Onward::stmt_laws))]
 fn statements(
     known: &Known,
     inside: u32,
@@ -376,7 +376,7 @@ fn statements(
 
 /// A statement behind one that has left a value, or has not; whether it leaves one.
 #[cycle(emit)]
-#[tactic(auto, using(bqn_syntax::specs::Levels::levels, crate::proofs::Walks::walk_laws))]
+#[tactic(auto, using(bqn_syntax::specs::Levels::levels, crate::proofs::Walks::walk_laws, crate::proofs::Onward::stmt_laws))]
 fn statement(
     known: &Known,
     inside: u32,
