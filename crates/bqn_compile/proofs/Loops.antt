@@ -37,6 +37,10 @@ pub many-bodies : (bs : List CodeBody) → how_many (bodies (map body_of bs)) �
 many-bodies [] = refl
 many-bodies (b ∷ bs) = ap (λ (n : ℕ). suc n) (many-bodies bs)
 
+pub empty : {A : Type 0} (xs : List A) → length xs ≡ 0 → xs ≡ []
+empty [] e = refl
+empty (x ∷ xs) e = absurd (omega arith)
+
 one-more : (n : ℕ) → suc n ≡ n + 1
 one-more n = omega arith
 

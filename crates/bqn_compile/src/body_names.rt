@@ -35,6 +35,7 @@ fn exports(known: &Known, all: &[(Name, u32)]) -> Result<Row<(u32, u16)>, Compil
 }
 
 /// Those of the body with this number.
+#[tactic(auto, using(crate::proofs::Walks::walk_laws), unfolding(crate::specs::Walking::names_of, crate::specs::Walking::setting_of))]
 pub fn own_names(known: &Known, number: u32) -> Result<(u16, Row<(u32, u16)>), CompileError>
     ensures slots { IfOk result (λ r. r.0 ≡ length (names_in (slice_get (names_of known.now) number)).slots) }
     ensures exports { IfOk result (λ r. r.1 ≡ exports_code (setting_of known.now).names (names_in (slice_get (names_of known.now) number)).exports) }

@@ -24,7 +24,7 @@ use Rattle.bqn_compile.proofs.Yielded.{all-yielded}
 use Rattle.bqn_compile.proofs.Onward.{stmts-end}
 use Rattle.bqn_compile.proofs.Turning.{expr-turned, part-turned, list-turned, strand-turned}
 use Rattle.bqn_compile.proofs.Bodies.{body-code-made, body-walk-made, block-made}
-use Rattle.bqn_compile.proofs.Loops.{on_ok, many-exprs, many-parts, many-bodies, drop-next, deriveds-step, stmts-step, bodies-walk, bodies-made}
+use Rattle.bqn_compile.proofs.Loops.{on_ok, many-exprs, many-parts, many-bodies, empty, drop-next, deriveds-step, stmts-step, bodies-walk, bodies-made}
 use Rattle.bqn_compile.proofs.Unstarted.{unstarted-Apply, unstarted-Assign, unstarted-Modify, unstarted-none}
 use Rattle.bqn_compile.proofs.emitting.+emit.Goals as goal
 
@@ -94,6 +94,7 @@ bodies-loop-b-preserved t c =
     }
 
 pub body-returns-clause-made : goal.body-returns-clause-made
+unfolding onward
 body-returns-clause-made t c =
     λ j. record {
       kind = c.args.kind;
@@ -111,7 +112,7 @@ body-returns-clause-walk t c =
     refl refl c.in_ok-header.ensures c.in_ok-statements.ensures refl refl (ap (λ v. v.items) (c.replace-code.ensures.after ∙ c.replace-around.ensures.value))
 
 pub unstarted-returns-in_default : goal.unstarted-returns-in_default
-unstarted-returns-in_default t c = on_ok c.push.result _ _ _ c.push.ensures.walked (unstarted-none (setting_of c.args.known.now) (names_of c.args.known.now) c.args.inside c.args.all.now (walked c.args.out.now) c.in_default.ensures.cases)
+unstarted-returns-in_default t c = on_ok c.push.result _ _ _ c.push.ensures.walked (unstarted-none (setting_of c.args.known.now) (names_of c.args.known.now) c.args.inside c.args.all.now (walked c.args.out.now) (empty c.args.all.now c.in_default.ensures.cases))
 
 pub unstarted-returns-in_ok-derived-in-Modify : goal.unstarted-returns-in_ok-derived-in-Modify
 unstarted-returns-in_ok-derived-in-Modify t c =
@@ -136,7 +137,7 @@ unstarted-returns-in_ok-steps-in-Assign t c =
 pub statements-loop-s-preserved : goal.statements-loop-s-preserved
 statements-loop-s-preserved t c =
     let e : drop c.loop-s.s-index c.args.all.now ≡ c.s-item.result ∷ drop (c.loop-s.s-index + 1) c.args.all.now = drop-next c.args.all.now c.loop-s.s-index c.s-item.result (omega arith) c.s-item.is in
-    stmts-step (setting_of c.args.known.now) (names_of c.args.known.now) c.args.inside (drop c.loop-s.s-index c.args.all.now) (drop (c.loop-s.s-index + 1) c.args.all.now) c.s-item.result c.loop-s.left c.in_ok-left-2.left (stmts_export (stmts (map stmt_of c.args.all.now))) (onward c.loop-s.out) (onward c.statement.new.out) _ e c.in_ok-left-2.ensures.leaves c.in_ok-left-2.ensures.walk c.loop-s.invariant
+    stmts-step (setting_of c.args.known.now) (names_of c.args.known.now) c.args.inside (drop c.loop-s.s-index c.args.all.now) (drop (c.loop-s.s-index + 1) c.args.all.now) c.s-item.result c.loop-s.left c.in_ok-left.left (stmts_export (stmts (map stmt_of c.args.all.now))) (onward c.loop-s.out) (onward c.statement.new.out) _ e c.in_ok-left.ensures.leaves c.in_ok-left.ensures.walk c.loop-s.invariant
 
 pub statements-returns : goal.statements-returns
 statements-returns t c =
