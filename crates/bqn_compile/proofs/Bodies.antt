@@ -1,11 +1,12 @@
 -- A block at its place, and its bodies, each with a code of its own.
-use Rattle.std.proofs.Common.{◌≡◌, ℕ, zero, suc, ◌<◌, arith, get_or, slice_set, Bool, true, false, ◌++◌, List, [], ◌∷◌, length, map, reverse, slice_get, refl, sym, ap, ◌∙◌, append_assoc, Option}
+use Rattle.std.proofs.Common.{◌≡◌, ℕ, zero, suc, ◌<◌, arith, get_or, slice_set, Bool, true, false, ◌++◌, List, [], ◌∷◌, length, map, reverse, slice_get, refl, sym, ap, ◌∙◌, append_assoc, Option, None}
 use Rattle.std.proofs.lemmas.List.{append-nil, reverse-append}
 use Rattle.bqn_base.specs.declared.place.Place.{Place}
 use Rattle.bqn_syntax.specs.declared.tree.Class.{Class}
+use Rattle.bqn_syntax.specs.declared.tree.Class.TheVariants as class
 use Rattle.bqn_syntax.specs.Plain.{Header, Stmts, BlockTree, block, BodyTree, body, Bodies, no_bodies, and_bodies}
 use Rattle.bqn_syntax.specs.Blocks.{and_plain, plain_in}
-use Rattle.bqn_syntax.specs.Classes.{body_calls, has_predicate}
+use Rattle.bqn_syntax.specs.Classes.{Both, body_calls, has_predicate}
 use Rattle.bqn_syntax.specs.Counting.{how_many}
 use Rattle.bqn_syntax.specs.Exporting.{stmts_export}
 use Rattle.bqn_syntax.specs.Bodies.{BodyNames}
@@ -18,6 +19,7 @@ use Rattle.bqn_compile.specs.Counting.{past, nothing, one_block, in_header, in_s
 use Rattle.bqn_compile.specs.Expressions.{Setting, block_instr}
 use Rattle.bqn_compile.specs.Bodies.{names_in, body_code, calls_of, header_code, stmts_code, kind_code}
 use Rattle.bqn_compile.specs.Blocks.{bodies_code, bodies_blocks, body_blocks, stmts_blocks, blocks_from}
+use Rattle.bqn_compile.specs.Translation.{at_start, program}
 use Rattle.bqn_compile.specs.Walking.{Walked, walked, onward, skip, append, behind, ahead, header_behind, rest_code, stmts_behind, body_behind, bodies_behind, block_walk, reserved, filled_at, filled, body_made}
 use Rattle.bqn_compile.proofs.Counts.{past-assoc, past-nothing}
 use Rattle.bqn_compile.proofs.Onward.{rest-false}
@@ -96,3 +98,19 @@ module _ (g : Setting) (names : List BodyNames) where
               ∙ (λ k. filled_at ((l ∙ ap length blocks_skipped) k) (made_is k) (blocks_held k ++ bodies_blocks g names (f k) bs (at_held k)))
               ∙ filled-seam old.blocks.items (record { class = c; parent = inside; bodies = [] }) (bodies_blocks g names old.at.bodies bs (past old.at (one_block (how_many bs)))) (bodies_code g names (plain_in bs) 0 old.at.bodies (past old.at (one_block (how_many bs))) bs)) j;
         }
+
+  -- the program before the blocks inside it
+  pub program-made : (ss : Stmts) (first held mid new : Walk) (place : ℕ) (own : Body) (made : List Body) → first.at ≡ at_start → first.blocks.items ≡ [] → place ≡ length first.blocks.items →
+      onward held ≡ reserved (record { class = class.Immediate; parent = 0; bodies = [] }) (onward first) →
+      own ≡ body_made g (names_in (slice_get names 0)) 0 (onward held).at (body None ss) → onward mid ≡ body_behind g names 0 (body None ss) (onward held) → made ≡ own ∷ [] → onward new ≡ filled place made (onward mid) →
+      new.blocks.items ≡ program g names ss ∷ stmts_blocks g names 0 ss at_start
+  unfolding onward reserved filled body_behind
+  program-made ss first held mid new place own made a b l r o m d u =
+      let at_held : held.at ≡ at_start = ap (λ (w : Walked). w.at) r ∙ a in
+      let blocks_held : held.blocks.items ≡ record { class = class.Immediate; parent = 0; bodies = [] } ∷ [] = ap (λ (w : Walked). w.blocks) r ∙ ap (λ (xs : List Block). xs ++ record { class = class.Immediate; parent = 0; bodies = [] } ∷ []) b in
+      let made_is : made ≡ body_code g (names_in (slice_get names 0)) Both at_start (body None ss) ∷ [] = d ∙ ap (λ (x : Body). x ∷ []) (o ∙ ap (λ (c : Count). body_made g (names_in (slice_get names 0)) 0 c (body None ss)) at_held) in
+      let place_is : place ≡ 0 = l ∙ ap length b in
+      ap (λ (w : Walked). w.blocks) u
+      ∙ ap (λ (w : Walked). filled_at place made w.blocks) m
+      ∙ (λ k. filled_at (place_is k) (made_is k) (blocks_held k ++ stmts_blocks g names 0 ss (past (at_held k) nothing)))
+      ∙ ap (λ (c : Count). program g names ss ∷ stmts_blocks g names 0 ss c) (past-nothing at_start)
