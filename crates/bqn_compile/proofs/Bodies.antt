@@ -1,11 +1,11 @@
 -- A block at its place, and its bodies, each with a code of its own.
-use Rattle.std.proofs.Common.{◌≡◌, ℕ, zero, suc, ◌<◌, arith, get_or, slice_set, Bool, true, false, ◌++◌, List, [], ◌∷◌, length, map, reverse, slice_get, refl, sym, ap, ◌∙◌, append_assoc, Option, None}
+use Rattle.std.proofs.Common.{◌≡◌, ℕ, zero, suc, ◌<◌, arith, get_or, slice_set, true, false, ◌++◌, List, [], ◌∷◌, length, reverse, slice_get, refl, sym, ap, ◌∙◌, append_assoc, Option, None}
 use Rattle.std.proofs.lemmas.List.{append-nil, reverse-append}
 use Rattle.bqn_base.specs.declared.place.Place.{Place}
 use Rattle.bqn_syntax.specs.declared.tree.Class.{Class}
 use Rattle.bqn_syntax.specs.declared.tree.Class.TheVariants as class
-use Rattle.bqn_syntax.specs.Plain.{Header, Stmts, BlockTree, block, BodyTree, body, Bodies, no_bodies, and_bodies}
-use Rattle.bqn_syntax.specs.Blocks.{and_plain, plain_in}
+use Rattle.bqn_syntax.specs.Plain.{Header, Stmts, block, BodyTree, body, Bodies, no_bodies, and_bodies}
+use Rattle.bqn_syntax.specs.Blocks.{plain_in}
 use Rattle.bqn_syntax.specs.Classes.{Both, body_calls, has_predicate}
 use Rattle.bqn_syntax.specs.Counting.{how_many}
 use Rattle.bqn_syntax.specs.Exporting.{stmts_export}
@@ -15,10 +15,10 @@ use Rattle.bqn_code.specs.declared.code.Body.{Body}
 use Rattle.bqn_code.specs.declared.code.Block.{Block}
 use Rattle.bqn_compile.specs.declared.count.Count.{Count}
 use Rattle.bqn_compile.specs.declared.walk.Walk.{Walk}
-use Rattle.bqn_compile.specs.Counting.{past, nothing, one_block, in_header, in_stmts, in_body, in_bodies, in_block}
+use Rattle.bqn_compile.specs.Counting.{past, nothing, one_block, in_header, in_stmts, in_body, in_bodies}
 use Rattle.bqn_compile.specs.Expressions.{Setting, block_instr}
 use Rattle.bqn_compile.specs.Bodies.{names_in, body_code, calls_of, header_code, stmts_code, kind_code}
-use Rattle.bqn_compile.specs.Blocks.{bodies_code, bodies_blocks, body_blocks, stmts_blocks, blocks_from}
+use Rattle.bqn_compile.specs.Blocks.{bodies_code, bodies_blocks, body_blocks, stmts_blocks}
 use Rattle.bqn_compile.specs.Translation.{at_start, program}
 use Rattle.bqn_compile.specs.Walking.{Walked, walked, onward, skip, append, behind, ahead, header_behind, rest_code, stmts_behind, body_behind, bodies_behind, block_walk, reserved, filled_at, filled, body_made}
 use Rattle.bqn_compile.proofs.Counts.{past-assoc, past-nothing}

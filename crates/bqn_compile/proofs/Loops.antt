@@ -5,13 +5,12 @@ use Rattle.bqn_syntax.specs.declared.tree.Expr.{Expr as CodeExpr}
 use Rattle.bqn_syntax.specs.declared.tree.Part.{Part as CodePart}
 use Rattle.bqn_syntax.specs.declared.tree.Stmt.{Stmt as CodeStmt}
 use Rattle.bqn_syntax.specs.declared.tree.BodyTree.{BodyTree as CodeBody}
-use Rattle.bqn_syntax.specs.Plain.{Header, Stmts, Derived, BodyTree, body, Bodies, and_bodies, exprs, parts, deriveds, stmts, bodies, expr_of, part_of, derived_of, stmt_of, body_of}
+use Rattle.bqn_syntax.specs.Plain.{Header, Stmts, BodyTree, body, exprs, parts, deriveds, stmts, bodies, expr_of, part_of, derived_of, stmt_of, body_of}
 use Rattle.bqn_syntax.specs.Blocks.{and_plain}
 use Rattle.bqn_syntax.specs.Classes.{body_calls, has_predicate}
 use Rattle.bqn_syntax.specs.Counting.{how_many}
 use Rattle.bqn_syntax.specs.Bodies.{BodyNames}
 use Rattle.bqn_code.specs.declared.code.Body.{Body}
-use Rattle.bqn_compile.specs.declared.count.Count.{Count}
 use Rattle.bqn_compile.specs.declared.read.Read.{Read}
 use Rattle.bqn_compile.specs.Counting.{past, in_body}
 use Rattle.bqn_compile.specs.Expressions.{Setting, how_many_exprs, how_many_parts, fork_code}
@@ -78,7 +77,7 @@ module _ (g : Setting) (names : List BodyNames) (number next plain before more k
   unfolding body_behind
   bodies-made own made grown target a e n q k m s p t =
       let own_is : own ≡ body_code g (names_in (slice_get names number)) (calls_of plain before (body_of b)) w.at (body_of b) =
-          m ∙ ap (λ (j : ℕ). body_made g (names_in (slice_get names number)) j w.at (body h ss)) k ∙ ap (λ (x : BodyTree). body_code g (names_in (slice_get names number)) (calls_of plain before x) w.at x) (sym e) in
+      m ∙ ap (λ (j : ℕ). body_made g (names_in (slice_get names number)) j w.at (body h ss)) k ∙ ap (λ (x : BodyTree). body_code g (names_in (slice_get names number)) (calls_of plain before x) w.at x) (sym e) in
       let at_is : v.at ≡ past w.at (in_body (body_of b)) = ap (λ (x : Walked). x.at) q ∙ ap (λ (x : BodyTree). past w.at (in_body x)) (sym e) in
       (λ i. p i ++ bodies_code g names plain (s i) ((n ∙ sym (one-more number)) i) (at_is i) (bodies (map body_of rest)))
       ∙ append_assoc made (own ∷ []) (bodies_code g names plain (and_plain (body_of b) before) (suc number) (past w.at (in_body (body_of b))) (bodies (map body_of rest)))

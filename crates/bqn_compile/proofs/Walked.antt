@@ -4,16 +4,16 @@ use Rattle.std.proofs.lemmas.List.{append-nil}
 use Rattle.bqn_syntax.specs.declared.token.Token.{Token}
 use Rattle.bqn_syntax.specs.declared.tree.Arrow.{Arrow}
 use Rattle.bqn_syntax.specs.declared.tree.Arrow.TheVariants as arrow
-use Rattle.bqn_syntax.specs.Plain.{Pattern, Expr, Value, Train, Modifier, Use, One, Two, Part, Leaf, Elements, Merge, Paren, Block as Braces, Field, Strand, Nothing, Step, Apply, Assign, Modify, BlockTree, block, Derived, derived, none, some, Exprs, no_exprs, and_exprs, Uses, no_uses, and_uses, Parts, no_parts, and_parts, Steps, no_steps, and_steps, Deriveds, no_deriveds, and_deriveds}
+use Rattle.bqn_syntax.specs.Plain.{Expr, Value, Train, Modifier, Use, One, Two, Part, Leaf, Elements, Merge, Paren, Block as Braces, Field, Strand, Nothing, Step, Apply, Assign, Modify, Derived, derived, none, some, Uses, no_uses, and_uses, Steps, no_steps, and_steps, Deriveds, no_deriveds, and_deriveds}
 use Rattle.bqn_syntax.specs.Bodies.{BodyNames}
 use Rattle.bqn_code.specs.declared.instr.Instr.{Instr}
 use Rattle.bqn_code.specs.declared.instr.Instr.TheVariants as i
 use Rattle.bqn_code.specs.declared.code.Block.{Block}
 use Rattle.bqn_compile.specs.declared.count.Count.{Count}
-use Rattle.bqn_compile.specs.Counting.{past, nothing, in_token, in_targets, in_target, in_expr, in_part, in_steps, in_step, in_derived, in_uses, in_use, in_deriveds, in_exprs, in_parts, in_block}
+use Rattle.bqn_compile.specs.Counting.{past, nothing, in_token, in_targets, in_target, in_expr, in_part, in_steps, in_step, in_derived, in_uses, in_use, in_deriveds, in_exprs, in_parts}
 use Rattle.bqn_compile.specs.Pools.{seen_at}
 use Rattle.bqn_compile.specs.Expressions.{Setting, load, store, leaf_instr, target_instr, targets_code, fields_code, parts_read, fork_code, atop_code, derives, how_many_exprs, how_many_parts, expr_code, part_code, steps_code, step_code, derived_code, uses_code, use_code, deriveds_code, exprs_code, parts_code}
-use Rattle.bqn_compile.specs.Blocks.{expr_blocks, part_blocks, steps_blocks, step_blocks, derived_blocks, uses_blocks, use_blocks, deriveds_blocks, exprs_blocks, parts_blocks, blocks_from}
+use Rattle.bqn_compile.specs.Blocks.{expr_blocks, part_blocks, steps_blocks, step_blocks, derived_blocks, uses_blocks, use_blocks, deriveds_blocks, exprs_blocks, parts_blocks}
 use Rattle.bqn_compile.specs.Walking.{Walked, skip, push, pushes, ahead, load_at, store_at, token_walk, target_walk, targets_walk, list_walk, strand_walk, block_walk, expr_walk, part_walk, steps_walk, step_walk, derived_walk, uses_walk, use_walk, deriveds_walk}
 use Rattle.bqn_compile.proofs.Counts.{past-assoc, past-nothing, nothing-past}
 
@@ -73,6 +73,7 @@ module _ (g : Setting) where
 module _ (g : Setting) (names : List BodyNames) (inside : ℕ) where
   mutual
     unfolding ahead skip push pushes load_at store_at token_walk target_walk list_walk strand_walk block_walk
+
     pub expr-walks : (e : Expr) (w : Walked) → expr_walk g names inside e w ≡ ahead (in_expr e) (expr_code g w.at e) (expr_blocks g names inside e w.at) w
     expr-walks (Value none no_steps) w = ap (push i.Nothing) (nothing-ahead w) ∙ none-ahead nothing [] [] i.Nothing w
     expr-walks (Value none (and_steps (Modify t d) ss)) w =

@@ -1,5 +1,5 @@
 -- One thing more in a walk.
-use Rattle.std.proofs.Common.{◌≡◌, ℕ, suc, ◌≤◌, ◌++◌, List, [], ◌∷◌, length, map, take, drop, reverse, refl, sym, ap, ◌∙◌, append_assoc}
+use Rattle.std.proofs.Common.{◌≡◌, ℕ, ◌≤◌, ◌++◌, List, [], ◌∷◌, length, map, drop, reverse, refl, sym, ap, ◌∙◌, append_assoc}
 use Rattle.std.proofs.lemmas.List.{reverse-append, append-nil, take_all, drop_all}
 use Rattle.bqn_syntax.specs.declared.token.Token.{Token}
 use Rattle.bqn_syntax.specs.declared.tree.Derived.{Derived as CodeDerived}
@@ -9,7 +9,6 @@ use Rattle.bqn_code.specs.declared.instr.Instr.{Instr}
 use Rattle.bqn_code.specs.declared.instr.Instr.TheVariants as instr
 use Rattle.bqn_compile.specs.Expressions.{fields_code, derives, derive_instr, and_one, parts_read}
 use Rattle.bqn_compile.specs.Pools.{name_number}
-use Rattle.bqn_compile.specs.declared.count.Count.{Count}
 use Rattle.bqn_compile.specs.declared.walk.Walk.{Walk}
 use Rattle.bqn_compile.specs.Walking.{Walked, walked, onward, turned, push, pushes, append, reads}
 
@@ -64,4 +63,5 @@ module _ (w v u : Walked) (i : Instr) where
       q ∙ ap (push i) p ∙ push-pushes i (derives (uses us)) w ∙ ap (λ (y : Instr). pushes (y ∷ derives (uses us)) w) e ∙ ap (λ (xs : List Use). pushes (derives (uses xs)) w) (sym n)
 
 pub ruleset push_laws = (reverse-push, walked-at, onward-at, push-is, pushes-none, append-append, append-none)
+
 pub ruleset walk_laws = (walked-at, onward-at, parts-read)

@@ -13,7 +13,6 @@ use Rattle.bqn_code.specs.declared.instr.Instr.{Instr}
 use Rattle.bqn_code.specs.declared.instr.Instr.TheVariants as i
 use Rattle.bqn_code.specs.declared.code.Body.{Body}
 use Rattle.bqn_code.specs.declared.code.Block.{Block}
-use Rattle.bqn_scope.specs.Scopes.{use_shown}
 use Rattle.bqn_scope.specs.Numbering.{body_shown}
 use Rattle.bqn_compile.specs.declared.count.Count.{Count}
 use Rattle.bqn_compile.specs.declared.read.Read.{Read}
@@ -255,7 +254,6 @@ body_made g own kind c (body h ss) = record {
   exports = exports_code g.names own.exports;
   code = header_code g.uses c h ++ stmts_code g (stmts_export ss) (past c (in_header h)) ss;
 }
-
 
 module _ (g : Setting) (names : List BodyNames) where
   unfoldable pub body_behind : (number : ℕ) → BodyTree → Walked → Walked

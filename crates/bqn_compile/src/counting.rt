@@ -33,7 +33,7 @@ pub fn leaves(q: &Pattern) -> Result<Count, CompileError>
 
 #[cycle(pattern)]
 #[tactic(auto, using(bqn_syntax::specs::Levels::levels, crate::proofs::Counts::count_laws))]
-pub fn all_leaves(all: &[Pattern]) -> Result<Count, CompileError>
+fn all_leaves(all: &[Pattern]) -> Result<Count, CompileError>
     ensures { IfOk result (λ c. c ≡ in_all_leaves (plain_patterns (map pattern_of all.now))) }
 {
     let mut so = nothing();
@@ -44,7 +44,7 @@ pub fn all_leaves(all: &[Pattern]) -> Result<Count, CompileError>
 }
 
 #[tactic(auto, using(bqn_syntax::specs::Levels::levels, crate::proofs::Counts::count_laws))]
-pub fn pattern(q: &Pattern) -> Result<Count, CompileError>
+fn pattern(q: &Pattern) -> Result<Count, CompileError>
     ensures { IfOk result (λ c. c ≡ in_pattern (pattern_of q.now)) }
 {
     past(one_pattern(), leaves(q)?)

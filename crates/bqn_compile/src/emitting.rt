@@ -14,19 +14,17 @@ use crate::body_names::own_names;
 use crate::count::one_block;
 use crate::error::CompileError;
 use crate::header::header;
-use crate::read::Read;
 use crate::parts::{atop, derive, fields, fork};
 use crate::places::{fill, reserve};
+use crate::read::Read;
 use crate::walk::{
-    Known, Walk, drop_value, end, length, load_here, push, skip, store_here, target, targets, token,
-    turn,
+    Known, Walk, drop_value, end, length, load_here, push, skip, store_here, target, targets,
+    token, turn,
 };
 use crate::{counting, exporting, leaf};
 use bqn_base::Row;
 use bqn_code::{Body, Instr};
-use bqn_syntax::{
-    Arrow, BlockTree, BodyTree, Derived, Expr, Header, ModUse, Part, Step, Stmt,
-};
+use bqn_syntax::{Arrow, BlockTree, BodyTree, Derived, Expr, Header, ModUse, Part, Step, Stmt};
 use std::mem;
 
 #[cycle(emit)]
@@ -37,9 +35,9 @@ fn expr(known: &Known, inside: u32, e: &Expr, out: &mut Walk) -> Result<(), Comp
     match e {
         Expr::Value { last, steps: all } => match last {
             None => unstarted(known, inside, all.list(), out),
-            Some(x) => {
+            Some(right) => {
                 steps(known, inside, all.list(), out)?;
-                part(known, inside, x, out)
+                part(known, inside, right, out)
             }
         },
         Expr::Train {
@@ -63,12 +61,7 @@ fn expr(known: &Known, inside: u32, e: &Expr, out: &mut Walk) -> Result<(), Comp
 /// A value without a part at its end.
 #[cycle(emit)]
 #[tactic(auto, using(bqn_syntax::specs::Levels::levels, crate::proofs::Walks::walk_laws))]
-fn unstarted(
-    known: &Known,
-    inside: u32,
-    all: &[Step],
-    out: &mut Walk,
-) -> Result<(), CompileError>
+fn unstarted(known: &Known, inside: u32, all: &[Step], out: &mut Walk) -> Result<(), CompileError>
     ensures { OnOk result (walked out.new ≡ expr_walk (setting_of known.now) (names_of known.now) inside (Value none (plain_steps (map step_of all.now))) (walked out.old)) }
 {
     let Some((first, rest)) = all.split_first() else {
@@ -80,13 +73,13 @@ fn unstarted(
             function,
         } => {
             steps(known, inside, rest, out)?;
-            let reading = load_here(known, out)?;
+            let argument = load_here(known, out)?;
             let storing = store_here(known, Arrow::Change, out)?;
             push(out, storing)?;
             push(out, Instr::Call1)?;
             skip(out, counting::token(t))?;
             derived(known, inside, function, out)?;
-            push(out, reading)
+            push(out, argument)
         }
         Step::Apply { .. } => {
             steps(known, inside, all, out)?;
@@ -166,12 +159,7 @@ fn forward(known: &Known, inside: u32, e: &Expr, out: &mut Walk) -> Result<(), C
 
 #[cycle(emit)]
 #[tactic(auto, using(bqn_syntax::specs::Levels::levels, crate::proofs::Walks::walk_laws))]
-fn forward_part(
-    known: &Known,
-    inside: u32,
-    x: &Part,
-    out: &mut Walk,
-) -> Result<(), CompileError>
+fn forward_part(known: &Known, inside: u32, x: &Part, out: &mut Walk) -> Result<(), CompileError>
     ensures { OnOk result (onward out.new ≡ part_behind (setting_of known.now) (names_of known.now) inside (part_of x.now) (onward out.old)) }
 {
     let from = out.code.len();
@@ -236,12 +224,7 @@ fn derived(known: &Known, inside: u32, d: &Derived, out: &mut Walk) -> Result<()
 
 #[cycle(emit)]
 #[tactic(auto, using(bqn_syntax::specs::Levels::levels, crate::proofs::Walks::walk_laws))]
-fn mod_uses(
-    known: &Known,
-    inside: u32,
-    all: &[ModUse],
-    out: &mut Walk,
-) -> Result<(), CompileError>
+fn mod_uses(known: &Known, inside: u32, all: &[ModUse], out: &mut Walk) -> Result<(), CompileError>
     ensures { OnOk result (walked out.new ≡ uses_walk (setting_of known.now) (names_of known.now) inside (plain_uses (map use_of all.now)) (walked out.old)) }
 {
     for u in all {
@@ -267,12 +250,7 @@ fn mod_use(known: &Known, inside: u32, u: &ModUse, out: &mut Walk) -> Result<(),
 /// The parts of a train, and what is made of them as they are read from the right.
 #[cycle(emit)]
 #[tactic(auto, using(bqn_syntax::specs::Levels::levels, crate::proofs::Walks::walk_laws))]
-fn deriveds(
-    known: &Known,
-    inside: u32,
-    all: &[Derived],
-    out: &mut Walk,
-) -> Result<(), CompileError>
+fn deriveds(known: &Known, inside: u32, all: &[Derived], out: &mut Walk) -> Result<(), CompileError>
     ensures { OnOk result (walked out.new ≡ deriveds_walk (setting_of known.now) (names_of known.now) inside (plain_deriveds (map derived_of all.now)) (walked out.old)) }
 {
     let mut right = all.len();
@@ -359,12 +337,7 @@ pub fn body(
 /// The statements of the body with this number, and its end.
 #[cycle(emit)]
 #[tactic(auto, using(bqn_syntax::specs::Levels::levels, crate::proofs::Walks::walk_laws, crate::proofs::Onward::stmt_laws))]
-fn statements(
-    known: &Known,
-    inside: u32,
-    all: &[Stmt],
-    out: &mut Walk,
-) -> Result<(), CompileError>
+fn statements(known: &Known, inside: u32, all: &[Stmt], out: &mut Walk) -> Result<(), CompileError>
     ensures { OnOk result (onward out.new ≡ stmts_behind (setting_of known.now) (names_of known.now) inside false (stmts_export (plain_stmts (map stmt_of all.now))) (plain_stmts (map stmt_of all.now)) (onward out.old)) }
 {
     let mut left = false;

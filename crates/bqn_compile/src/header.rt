@@ -75,12 +75,7 @@ fn name(known: &Known, i: Instr, t: &Token, out: &mut Walk) -> Result<(), Compil
 }
 
 #[tactic(auto, using(crate::proofs::Headers::header_laws))]
-fn operand(
-    known: &Known,
-    i: Instr,
-    t: &Option<Token>,
-    out: &mut Walk,
-) -> Result<(), CompileError>
+fn operand(known: &Known, i: Instr, t: &Option<Token>, out: &mut Walk) -> Result<(), CompileError>
     ensures { OnOk result (onward out.new ≡ operand_behind (setting_of known.now) i t.now (onward out.old)) }
 {
     match t {

@@ -64,11 +64,7 @@ pub fn turn(out: &mut Walk, from: usize)
 pub fn drop_value(left: bool, out: &mut Walk) -> Result<(), CompileError>
     ensures { OnOk result (onward out.new ≡ append (drop_code left) (onward out.old)) }
 {
-    if left {
-        push(out, Instr::Pop)
-    } else {
-        Ok(())
-    }
+    if left { push(out, Instr::Pop) } else { Ok(()) }
 }
 
 /// What ends a body behind its last statement, which has left a value or has not.
@@ -130,12 +126,7 @@ pub fn token(known: &Known, t: &Token, out: &mut Walk) -> Result<(), CompileErro
 
 /// The target of an arrow.
 #[tactic(auto, using(bqn_syntax::specs::Levels::levels, crate::proofs::Walks::push_laws), unfolding(crate::specs::Walking::setting_of, crate::specs::Walking::target_walk, crate::specs::Walking::store_at))]
-pub fn target(
-    known: &Known,
-    q: &Pattern,
-    arrow: Arrow,
-    out: &mut Walk,
-) -> Result<(), CompileError>
+pub fn target(known: &Known, q: &Pattern, arrow: Arrow, out: &mut Walk) -> Result<(), CompileError>
     ensures { OnOk result (walked out.new ≡ target_walk (setting_of known.now) (pattern_of q.now) arrow (walked out.old)) }
 {
     let i = match q {
@@ -149,11 +140,7 @@ pub fn target(
 
 /// The targets of a train or a modifier, the rightmost of which is stored first.
 #[tactic(auto, using(crate::proofs::Walks::push_laws))]
-pub fn targets(
-    known: &Known,
-    all: &[(Token, Arrow)],
-    out: &mut Walk,
-) -> Result<(), CompileError>
+pub fn targets(known: &Known, all: &[(Token, Arrow)], out: &mut Walk) -> Result<(), CompileError>
     ensures { OnOk result (walked out.new ≡ targets_walk (setting_of known.now) all.now (walked out.old)) }
 {
     for t in all {

@@ -1,4 +1,4 @@
-use Rattle.std.proofs.Common.{◌≡◌, ◌∷◌, [], ◌++◌, List, map, ap, ◌∙◌}
+use Rattle.std.proofs.Common.{◌∷◌, [], ◌++◌, List, map, ap, ◌∙◌}
 use Rattle.bqn_syntax.specs.Plain.{stmt_of, stmts}
 use Rattle.bqn_scope.specs.Numbering.{body_shown}
 use Rattle.bqn_code.specs.declared.code.Body.{Body}

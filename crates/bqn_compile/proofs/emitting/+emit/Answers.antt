@@ -1,11 +1,10 @@
-use Rattle.std.proofs.Common.{◌≡◌, ℕ, ◌+◌, ◌-◌, ◌<◌, Bool, suc, List, ◌∷◌, map, drop, length, arith, refl, ap, sym, ◌∙◌}
+use Rattle.std.proofs.Common.{◌≡◌, ℕ, ◌+◌, ◌-◌, Bool, suc, List, ◌∷◌, map, drop, length, arith, refl, ap, sym, ◌∙◌}
 use Rattle.std.specs.Option.{option_map}
 use Rattle.std.proofs.lemmas.Iterator.Adapters.{YieldsList-from_rev_slice}
 use Rattle.std.proofs.lemmas.Iterator.Consumers.{YieldsList-end}
 use Rattle.std.proofs.lemmas.List.{at_drop_all}
 use Rattle.bqn_syntax.specs.declared.tree.BlockTree.{out-BlockTree}
 use Rattle.bqn_syntax.specs.declared.tree.BodyTree.{BodyTree as CodeBody, out-BodyTree}
-use Rattle.bqn_syntax.specs.declared.tree.Derived.{Derived as CodeDerived}
 use Rattle.bqn_syntax.specs.declared.tree.Expr.{Expr as CodeExpr}
 use Rattle.bqn_syntax.specs.declared.tree.Part.{Part as CodePart}
 use Rattle.bqn_syntax.specs.declared.tree.Stmt.{Stmt as CodeStmt}
@@ -13,13 +12,12 @@ use Rattle.bqn_syntax.specs.Blocks.{plain_in}
 use Rattle.bqn_syntax.specs.Classes.{body_calls}
 use Rattle.bqn_syntax.specs.Exporting.{stmts_export}
 use Rattle.bqn_syntax.specs.Levels.{block-out, body-out}
-use Rattle.bqn_syntax.specs.Plain.{Step, BlockTree, body, header_of, expr_of, part_of, step_of, derived_of, stmt_of, body_of, steps, exprs, parts, stmts, bodies}
+use Rattle.bqn_syntax.specs.Plain.{Step, BlockTree, body, header_of, expr_of, part_of, step_of, stmt_of, body_of, steps, exprs, parts, stmts, bodies}
 use Rattle.bqn_code.specs.declared.instr.Instr.TheVariants as i
 use Rattle.bqn_compile.specs.declared.count.Count.{Count}
-use Rattle.bqn_compile.specs.declared.walk.Walk.{Walk}
 use Rattle.bqn_compile.specs.Blocks.{bodies_code}
 use Rattle.bqn_compile.specs.Bodies.{kind_code}
-use Rattle.bqn_compile.specs.Walking.{Walked, setting_of, names_of, walked, onward, push, skip, append, ending, steps_walk, exprs_behind, parts_behind, stmts_behind, bodies_behind, block_walk}
+use Rattle.bqn_compile.specs.Walking.{setting_of, names_of, walked, onward, push, skip, append, ending, steps_walk, exprs_behind, parts_behind, stmts_behind, bodies_behind, block_walk}
 use Rattle.bqn_compile.proofs.Yielded.{all-yielded}
 use Rattle.bqn_compile.proofs.Onward.{stmts-end}
 use Rattle.bqn_compile.proofs.Turning.{expr-turned, part-turned, list-turned, strand-turned}
@@ -86,11 +84,11 @@ bodies-loop-b-preserved t c =
     let n : c.in-Some.next ≡ c.loop-b.number + 1 = omega (arith, c.in-Some.ensures) in
     record {
       walk = bodies-walk (setting_of c.args.known.now) (names_of c.args.known.now) c.loop-b.number c.in-Some.next c.in_ok-plain.plain c.loop-b.before c.in_ok-before.before c.kind-kind.result (option_map header_of (out-BodyTree c.b-item.result).header) (stmts (map stmt_of c.list-statements.result.now)) c.b-item.result (drop c.loop-b.b-index c.args.all.now) (drop (c.loop-b.b-index + 1) c.args.all.now) (onward c.loop-b.out) (onward c.body.new.out)
-      _ a e n c.in_ok-own.ensures.walk c.loop-b.invariant.walk;
+          _ a e n c.in_ok-own.ensures.walk c.loop-b.invariant.walk;
       made = bodies-made (setting_of c.args.known.now) (names_of c.args.known.now) c.loop-b.number c.in-Some.next c.in_ok-plain.plain c.loop-b.before c.in_ok-before.before c.kind-kind.result (option_map header_of (out-BodyTree c.b-item.result).header) (stmts (map stmt_of c.list-statements.result.now)) c.b-item.result (drop c.loop-b.b-index c.args.all.now) (drop (c.loop-b.b-index + 1) c.args.all.now) (onward c.loop-b.out) (onward c.body.new.out)
-      c.in_ok-own.own c.loop-b.made.items c.push.new.self.items _ a e n c.in_ok-own.ensures.walk
-      (c.kind-kind.ensures ∙ ap (λ (p : Bool). kind_code (body_calls c.in_ok-plain.plain c.loop-b.before (option_map header_of (out-BodyTree c.b-item.result).header) p)) c.has_predicate.ensures)
-      c.in_ok-own.ensures.made c.in_ok-before.ensures c.in_ok-push.ensures.items c.loop-b.invariant.made;
+          c.in_ok-own.own c.loop-b.made.items c.push.new.self.items _ a e n c.in_ok-own.ensures.walk
+          (c.kind-kind.ensures ∙ ap (λ (p : Bool). kind_code (body_calls c.in_ok-plain.plain c.loop-b.before (option_map header_of (out-BodyTree c.b-item.result).header) p)) c.has_predicate.ensures)
+          c.in_ok-own.ensures.made c.in_ok-before.ensures c.in_ok-push.ensures.items c.loop-b.invariant.made;
     }
 
 pub body-returns-clause-made : goal.body-returns-clause-made
@@ -117,9 +115,9 @@ unstarted-returns-in_default t c = on_ok c.push.result _ _ _ c.push.ensures.walk
 pub unstarted-returns-in_ok-derived-in-Modify : goal.unstarted-returns-in_ok-derived-in-Modify
 unstarted-returns-in_ok-derived-in-Modify t c =
     on_ok c.push-in-Modify-3.result _ _ _ c.push-in-Modify-3.ensures.walked
-    (unstarted-Modify (setting_of c.args.known.now) (names_of c.args.known.now) c.args.inside c.args.all.now c.in-Some.rest.now c.in-Some.first.now (walked c.args.out.now) c.in-Modify.t c.in-Modify.function c.in_ok-reading-in-Modify.reading c.in_ok-storing-in-Modify.storing
+    (unstarted-Modify (setting_of c.args.known.now) (names_of c.args.known.now) c.args.inside c.args.all.now c.in-Some.rest.now c.in-Some.first.now (walked c.args.out.now) c.in-Modify.t c.in-Modify.function c.in_ok-argument-in-Modify.argument c.in_ok-storing-in-Modify.storing
     (walked c.steps.new.out) (walked c.push-in-Modify.new.out) (walked c.push-in-Modify-2.new.out) (walked c.skip.new.out) (walked c.derived.new.out)
-    c.in-Some.ensures.cases.0 c.in-Modify.is c.in_ok-steps-in-Modify.ensures c.in_ok-reading-in-Modify.ensures c.in_ok-storing-in-Modify.ensures
+    c.in-Some.ensures.cases.0 c.in-Modify.is c.in_ok-steps-in-Modify.ensures c.in_ok-argument-in-Modify.ensures c.in_ok-storing-in-Modify.ensures
     c.in_ok-push-in-Modify.ensures.walked c.in_ok-push-in-Modify-2.ensures.walked
     (c.in_ok-skip-in-Modify.ensures.walked ∙ ap (λ (so : Count). skip so (walked c.push-in-Modify-2.new.out)) c.token.ensures)
     c.in_ok-derived-in-Modify.ensures)

@@ -1,10 +1,5 @@
-use Rattle.std.proofs.Common.{◌≡◌, List}
-use Rattle.bqn_code.specs.declared.code.Block.{Block}
 use Rattle.bqn_compile.specs.Walking.{onward, filled}
 use Rattle.bqn_compile.proofs.Bodies.{filled-some, filled-none}
-use Rattle.bqn_compile.proofs.Loops.{bodies-made}
-use Rattle.bqn_compile.proofs.Unstarted.{unstarted-none}
-use Rattle.bqn_compile.proofs.Headers.{header-some}
 use Rattle.bqn_compile.proofs.places.fill.Goals as goal
 
 pub returns-in-Some : goal.returns-in-Some
