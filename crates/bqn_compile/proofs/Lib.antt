@@ -3,7 +3,7 @@ pub mod Keys
 pub mod Yielded
 pub mod Growing
 pub mod Unstarted
-pub mod Compiling
+pub mod Sources
 mod Samples
 mod BodySamples
 mod RunSamples

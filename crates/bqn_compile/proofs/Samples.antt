@@ -10,7 +10,7 @@ use Rattle.bqn_code.specs.declared.instr.Instr.{Instr}
 use Rattle.bqn_code.specs.declared.instr.Instr.TheVariants as i
 use Rattle.bqn_code.specs.Plain.{Pattern, Skip, Define, Change, ListPattern, Literal, patterns, Code}
 use Rattle.bqn_compile.specs.Gathering.{Most}
-use Rattle.bqn_compile.proofs.Compiling.{code_of, code_within, programs, inner_blocks, body, exporting, block, program, nums, code}
+use Rattle.bqn_compile.proofs.Sources.{code_of, code_within, programs, inner_blocks, body, exporting, block, program, nums, code}
 
 -- a program whose body has this code
 abbrev just : List Instr → List (List Instr)

@@ -14,6 +14,7 @@ mod exporting;
 mod gathering;
 mod key;
 mod leaf;
+mod name_pool;
 mod patterns;
 mod pooling;
 mod pools;
