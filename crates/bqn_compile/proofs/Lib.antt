@@ -1,4 +1,5 @@
 pub mod Counts
+pub mod Gathered
 pub mod Keys
 pub mod Yielded
 pub mod Growing

@@ -224,7 +224,7 @@ fn block(pools: &mut Pools, uses: &[Use], b: &BlockTree) -> Result<(), CompileEr
 }
 
 #[cycle(gather)]
-#[tactic(auto, using(bqn_syntax::specs::Levels::levels))]
+#[tactic(auto, using(bqn_syntax::specs::Levels::levels, crate::proofs::Gathered::step_laws))]
 fn steps(pools: &mut Pools, uses: &[Use], all: &[Step]) -> Result<(), CompileError>
     ensures { GathersTo result (gathered_shown pools.new) (gather.steps gather.the_most (map use_shown uses.now) (plain_steps (map step_of all.now)) (gathered_shown pools.old)) }
 {

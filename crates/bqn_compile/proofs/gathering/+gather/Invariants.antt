@@ -1,10 +1,13 @@
 use Rattle.std.proofs.Common.{◌≡◌, map, drop}
-use Rattle.bqn_syntax.specs.Plain.{use_of, derived_of, expr_of, part_of, stmt_of, body_of}
+use Rattle.bqn_syntax.specs.Plain.{step_of, use_of, derived_of, expr_of, part_of, stmt_of, body_of}
 use Rattle.bqn_syntax.specs.Plain as plain
 use Rattle.bqn_scope.specs.Scopes.{use_shown}
-use Rattle.bqn_compile.specs.Gathering.{the_most, mod_uses, deriveds, exprs, parts, stmts, bodies}
+use Rattle.bqn_compile.specs.Gathering.{the_most, steps, mod_uses, deriveds, exprs, parts, stmts, bodies}
 use Rattle.bqn_compile.specs.Shown.{gathered_shown}
 use Rattle.bqn_compile.proofs.gathering.+gather.Given as goal
+
+abbrev pub invariant-steps-loop-s : goal.invariant-steps-loop-s
+invariant-steps-loop-s l = steps the_most (map use_shown l.uses) (plain.steps (map step_of l.s-iterator.iter.rest.now)) (gathered_shown l.pools) ≡ steps the_most (map use_shown l.uses) (plain.steps (map step_of l.all)) (gathered_shown l.initial.pools)
 
 abbrev pub invariant-mod_uses-loop-u : goal.invariant-mod_uses-loop-u
 invariant-mod_uses-loop-u l = mod_uses the_most (map use_shown l.uses) (plain.uses (map use_of (drop l.u-index l.all))) (gathered_shown l.pools) ≡ mod_uses the_most (map use_shown l.uses) (plain.uses (map use_of l.all)) (gathered_shown l.initial.pools)
