@@ -7,12 +7,10 @@ use crate::blocks::program_blocks;
 use crate::error::CompileError;
 use crate::gathering;
 use crate::key::Key;
-use crate::name_pool::NamePool;
 use crate::pools::Pools;
 use bqn_base::{Memory, Row, Text};
 use bqn_code::{Code, Const};
 use bqn_scope::Resolved;
-use indexmap::IndexSet;
 use std::alloc::Global;
 
 /// The constant that a key stands for.
@@ -45,14 +43,7 @@ pub fn compile(alloc: Global, resolved: &Resolved) -> Result<Code, CompileError>
 {
     let uses = resolved.uses.list();
     let statements = resolved.tree.statements.list();
-    let mut pools = Pools {
-        alloc,
-        constants: IndexSet::new(alloc),
-        names: NamePool::new(alloc),
-        patterns: Vec::new(alloc),
-        uses: 0,
-        blocks: 1,
-    };
+    let mut pools = Pools::new(alloc);
     gathering::stmts(&mut pools, uses, statements)?;
     let Ok(blocks) = program_blocks(uses, &pools, resolved.bodies.list(), statements) else {
         return Err(CompileError::Memory);

@@ -1,6 +1,7 @@
 ghost use Rattle.std.specs.Prelude.{◌≡◌};
 ghost use Rattle.bqn_compile.specs.Pools.{name_number, constant_number, place_among};
-ghost use Rattle.bqn_compile.specs.Shown.{constants_shown, key_shown};
+ghost use Rattle.bqn_compile.specs.Gathering.{at_start};
+ghost use Rattle.bqn_compile.specs.Shown.{constants_shown, gathered_shown, key_shown};
 
 use crate::key::Key;
 use crate::name_pool::NamePool;
@@ -17,6 +18,22 @@ pub struct Pools {
     pub patterns: Vec<PatternCode>,
     pub uses: u32,
     pub blocks: u32,
+}
+
+impl Pools {
+    /// Nothing yet; the program itself is a block.
+    pub fn new(alloc: Global) -> Pools
+        ensures { gathered_shown result ≡ at_start }
+    {
+        Pools {
+            alloc,
+            constants: IndexSet::new(alloc),
+            names: NamePool::new(alloc),
+            patterns: Vec::new(alloc),
+            uses: 0,
+            blocks: 1,
+        }
+    }
 }
 
 /// The number of a name in the pool; what is pooled has one.

@@ -1,5 +1,4 @@
-use Rattle.std.proofs.Common.{rules, ◌≡◌, ◌∷◌, ◌++◌, ◌<◌, [], ◌∙◌, ap, sym, length, List, Option, Some, None, Ok}
-use Rattle.std.specs.Option.{option_map}
+use Rattle.std.proofs.Common.{rules, ◌≡◌, ◌<◌, ◌∙◌, ap, sym, length, List, Option, Some, None, Ok}
 use Rattle.bqn_code.specs.declared.constant.Const.{Const}
 use Rattle.bqn_compile.specs.Gathering.{Gathered, the_most}
 use Rattle.bqn_compile.specs.Gathering as gather
