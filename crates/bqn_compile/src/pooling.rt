@@ -89,7 +89,7 @@ pub fn constant(pools: &mut Pools, kind: &Kind, place: Place) -> Result<(), Comp
     let Some(key) = found else {
         return Ok(());
     };
-    if let Some(_) = place_of_constant(&pools.constants, &key) {
+    if place_of_constant(&pools.constants, &key).is_some() {
         return Ok(());
     }
     if pools.constants.len() >= MOST as usize {
