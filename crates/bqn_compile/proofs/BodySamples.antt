@@ -6,7 +6,7 @@ use Rattle.bqn_code.specs.declared.constant.Const.TheVariants as const
 use Rattle.bqn_code.specs.declared.instr.Instr.{Instr}
 use Rattle.bqn_code.specs.declared.instr.Instr.TheVariants as i
 use Rattle.bqn_code.specs.Plain.{Skip, Define, ListPattern, Literal, patterns}
-use Rattle.bqn_compile.proofs.Compiling.{with_tree, tree_code, code_of, inner_blocks, body, exporting, block, program, nums, code}
+use Rattle.bqn_compile.proofs.Sources.{with_tree, tree_code, code_of, inner_blocks, body, exporting, block, program, nums, code}
 
 abbrev return : List Instr
 return = i.Return ∷ []

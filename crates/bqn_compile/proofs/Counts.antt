@@ -21,4 +21,10 @@ past-nothing a = λ i. record { uses = plus-zero a.uses i; blocks = plus-zero a.
 pub nothing-past : (a : Count) → past nothing a ≡ a
 nothing-past a = λ i. record { uses = zero-plus a.uses i; blocks = zero-plus a.blocks i; bodies = zero-plus a.bodies i; patterns = zero-plus a.patterns i }
 
+plus-swap : (a b : ℕ) → a + b ≡ b + a
+plus-swap a b = omega arith
+
+pub past-swap : (a b : Count) → past a b ≡ past b a
+past-swap a b = λ i. record { uses = plus-swap a.uses b.uses i; blocks = plus-swap a.blocks b.blocks i; bodies = plus-swap a.bodies b.bodies i; patterns = plus-swap a.patterns b.patterns i }
+
 pub ruleset count_laws = (past-assoc, past-nothing, nothing-past)

@@ -1,4 +1,6 @@
+pub mod verified
 pub mod Counts
+pub mod Gathered
 pub mod Keys
 pub mod Yielded
 pub mod Walks
@@ -10,7 +12,7 @@ pub mod Headers
 pub mod Loops
 pub mod Reading
 pub mod Unstarted
-pub mod Compiling
+pub mod Sources
 mod Samples
 mod BodySamples
 mod RunSamples

@@ -17,7 +17,7 @@ use Rattle.bqn_code.specs.Plain.{Code}
 use Rattle.bqn_code.specs.States.{Ran}
 use Rattle.bqn_code.specs.Programs as run
 use Rattle.bqn_code.specs.Programs.{Done, Faulted, Spent, Stuck, Kept, fresh, no_words, exec_within, outcome, written, kept_behind}
-use Rattle.bqn_compile.proofs.Compiling.{with_tree, tree_code}
+use Rattle.bqn_compile.proofs.Sources.{with_tree, tree_code}
 
 -- a value, Nothing, a fault, or want of steps, and what was written; or code that is stuck; or a text that is no program
 pub data Seen : Type 0 where

@@ -8,3 +8,5 @@ pub mod Blocks
 pub mod Translation
 pub mod Shown
 pub mod Walking
+pub mod Sources
+pub mod Laws

@@ -3,7 +3,6 @@ use Rattle.std.specs.Prelude.{◌≡◌, List, map, Result, Ok, Err}
 use Rattle.bqn_base.specs.declared.refusal.Refusal.{Refusal}
 use Rattle.bqn_scope.specs.declared.used.Use.{Use}
 use Rattle.bqn_scope.specs.Scopes.{use_shown}
-use Rattle.bqn_scope.specs.Names.{spelled}
 use Rattle.bqn_scope.specs.Resolving.{resolution_of}
 use Rattle.bqn_scope.specs.declared.resolving.Resolved.{Resolved}
 use Rattle.bqn_syntax.specs.Bodies.{Resolution}
@@ -36,10 +35,10 @@ abbrev pub constants_shown : List Key → List Const
 constants_shown keys = map key_shown keys
 
 abbrev pub gathered_shown : Pools → Gathered
-gathered_shown p = record { constants = constants_shown p.constants.keys; names = spelled p.names.keys; patterns = map pattern_of p.patterns.items; uses = p.uses; blocks = p.blocks }
+gathered_shown p = record { constants = constants_shown p.constants.keys; names = p.names; patterns = map pattern_of p.patterns.items; uses = p.uses; blocks = p.blocks }
 
 abbrev pub setting_shown : List Use → Pools → Setting
-setting_shown uses p = record { uses = map use_shown uses; constants = constants_shown p.constants.keys; names = spelled p.names.keys }
+setting_shown uses p = record { uses = map use_shown uses; constants = constants_shown p.constants.keys; names = p.names }
 
 -- what gathering has left of this answer: the pools, or the refusal; want of memory is free
 abbrev pub GathersTo : {A : Type 0} → Result A CompileError → Gathered → Result Gathered Refusal → Type 0

@@ -95,9 +95,9 @@ fn all_leaves(
 fn pattern(pools: &mut Pools, uses: &[Use], q: &Pattern, arrow: Arrow) -> Result<(), CompileError>
     ensures { GathersTo result (gathered_shown pools.new) (gather.pattern gather.the_most (map use_shown uses.now) (by_arrow arrow) (pattern_of q.now) (gathered_shown pools.old)) }
 {
-    let first = pools.uses;
+    let mut number = pools.uses;
     leaves(pools, uses, q, arrow)?;
-    let code = pattern_code(pools, uses, arrow, first, q)?;
+    let code = pattern_code(pools, uses, arrow, &mut number, q)?;
     pools.patterns.push(code)?;
     Ok(())
 }
@@ -224,7 +224,7 @@ fn block(pools: &mut Pools, uses: &[Use], b: &BlockTree) -> Result<(), CompileEr
 }
 
 #[cycle(gather)]
-#[tactic(auto, using(bqn_syntax::specs::Levels::levels))]
+#[tactic(auto, using(bqn_syntax::specs::Levels::levels, crate::proofs::Gathered::step_laws))]
 fn steps(pools: &mut Pools, uses: &[Use], all: &[Step]) -> Result<(), CompileError>
     ensures { GathersTo result (gathered_shown pools.new) (gather.steps gather.the_most (map use_shown uses.now) (plain_steps (map step_of all.now)) (gathered_shown pools.old)) }
 {
@@ -327,7 +327,7 @@ fn parts(pools: &mut Pools, uses: &[Use], all: &[Part]) -> Result<(), CompileErr
 
 #[cycle(gather)]
 #[tactic(auto, using(bqn_syntax::specs::Levels::levels))]
-fn stmts(pools: &mut Pools, uses: &[Use], all: &[Stmt]) -> Result<(), CompileError>
+pub fn stmts(pools: &mut Pools, uses: &[Use], all: &[Stmt]) -> Result<(), CompileError>
     ensures { GathersTo result (gathered_shown pools.new) (gather.stmts gather.the_most (map use_shown uses.now) (plain_stmts (map stmt_of all.now)) (gathered_shown pools.old)) }
 {
     for s in all {

@@ -14,7 +14,9 @@ mod exporting;
 mod gathering;
 mod header;
 mod key;
+mod laws;
 mod leaf;
+mod name_pool;
 mod parts;
 mod patterns;
 mod places;
@@ -25,3 +27,4 @@ mod walk;
 
 pub use compiling::compile;
 pub use error::CompileError;
+pub use laws::{blocks_and_names_are_few, translated_code_is_verified};

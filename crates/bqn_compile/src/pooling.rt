@@ -1,6 +1,8 @@
 //! What one token adds to the pools.
 
-ghost use Rattle.std.specs.Prelude.{◌≡◌, map};
+ghost use Rattle.std.specs.Prelude.{◌≡◌, IsTrue, map};
+ghost use Rattle.std.specs.List.{list_all};
+ghost use Rattle.bqn_base.specs.Names.{is_name_character};
 ghost use Rattle.bqn_syntax.specs.Order.{by_arrow};
 ghost use Rattle.bqn_syntax.specs.Plain.{pattern_of, patterns as plain_patterns};
 ghost use Rattle.bqn_syntax.specs.Scope.{defines as defines_in, name_of as name_in};
@@ -16,7 +18,7 @@ use bqn_base::{Place, Refusal};
 use bqn_scope::Use;
 use bqn_syntax::{Arrow, Kind, Pattern, Token};
 
-/// The most distinct constants, and the most names of a body.
+/// The most constants, names of a body, and blocks beside the program.
 const MOST: u32 = 65535;
 
 pub fn defines(arrow: Arrow) -> bool
@@ -67,13 +69,13 @@ pub fn opens(pools: &mut Pools, place: Place) -> Result<(), CompileError>
 
 /// A name goes to the pool, unless it is there.
 pub fn name(pools: &mut Pools, spelling: &[char]) -> Result<(), CompileError>
+    requires { IsTrue (list_all is_name_character spelling.now) }
     ensures { GathersTo result (gathered_shown pools.new) (gather.pooled spelling.now (gathered_shown pools.old)) }
 {
     if pools.names.contains(spelling) {
         return Ok(());
     }
-    let key = Vec::from_slice(pools.alloc, spelling)?;
-    pools.names.insert_full(key)?;
+    pools.names.push(spelling)?;
     Ok(())
 }
 
@@ -81,15 +83,16 @@ pub fn name(pools: &mut Pools, spelling: &[char]) -> Result<(), CompileError>
 pub fn constant(pools: &mut Pools, kind: &Kind, place: Place) -> Result<(), CompileError>
     ensures { GathersTo result (gathered_shown pools.new) (gather.constant gather.the_most (constant_of kind.now) place (gathered_shown pools.old)) }
 {
-    let key = match Key::of(pools.alloc, kind) {
-        Ok(Some(key)) => key,
-        Ok(None) => return Ok(()),
-        Err(e) => return Err(e),
+    let Ok(found) = Key::of(pools.alloc, kind) else {
+        return Err(CompileError::Memory);
     };
-    if let Some(_) = place_of_constant(&pools.constants, &key) {
+    let Some(key) = found else {
+        return Ok(());
+    };
+    if place_of_constant(&pools.constants, &key).is_some() {
         return Ok(());
     }
-    if pools.constants.len() >= 65535 {
+    if pools.constants.len() >= MOST as usize {
         return Err(CompileError::Refused(Refusal::TooMany(place)));
     }
     pools.constants.insert_full(key)?;
@@ -98,7 +101,8 @@ pub fn constant(pools: &mut Pools, kind: &Kind, place: Place) -> Result<(), Comp
 
 /// The name that a token spells.
 pub fn spelling(t: &Token) -> &[char]
-    ensures { result.now ≡ name_in t.now }
+    ensures value { result.now ≡ name_in t.now }
+    ensures alphabet { IsTrue (list_all is_name_character result.now) }
 {
     match &t.kind {
         Kind::Word(name, _) | Kind::System(name, _) => name.chars(),

@@ -1,10 +1,10 @@
-ghost use Rattle.std.specs.Prelude.{◌≡◌, IfOk, OnOk};
-ghost use Rattle.bqn_scope.specs.Names.{spelled};
+ghost use Rattle.std.specs.Prelude.{◌≡◌};
 ghost use Rattle.bqn_compile.specs.Pools.{name_number, constant_number, place_among};
-ghost use Rattle.bqn_compile.specs.Shown.{constants_shown, key_shown};
-ghost use Rattle.bqn_syntax.specs.Scope.{place_of};
+ghost use Rattle.bqn_compile.specs.Gathering.{at_start};
+ghost use Rattle.bqn_compile.specs.Shown.{constants_shown, gathered_shown, key_shown};
 
 use crate::key::Key;
+use crate::name_pool::NamePool;
 use bqn_code::PatternCode;
 use indexmap::IndexSet;
 use std::alloc::Global;
@@ -14,27 +14,33 @@ use std::alloc::Global;
 pub struct Pools {
     pub alloc: Global,
     pub constants: IndexSet<Key>,
-    pub names: IndexSet<Vec<char>>,
+    pub names: NamePool,
     pub patterns: Vec<PatternCode>,
     pub uses: u32,
     pub blocks: u32,
 }
 
-/// The place of a name in the pool.
-fn place_of_name(names: &IndexSet<Vec<char>>, name: &[char]) -> Option<usize>
-    ensures { result ≡ place_of (spelled names.now.keys) name.now }
-{
-    names.get_index_of(name)
+impl Pools {
+    /// Nothing yet; the program itself is a block.
+    pub fn new(alloc: Global) -> Pools
+        ensures { gathered_shown result ≡ at_start }
+    {
+        Pools {
+            alloc,
+            constants: IndexSet::new(alloc),
+            names: NamePool::new(alloc),
+            patterns: Vec::new(alloc),
+            uses: 0,
+            blocks: 1,
+        }
+    }
 }
 
 /// The number of a name in the pool; what is pooled has one.
-pub fn name_at(names: &IndexSet<Vec<char>>, name: &[char]) -> usize
-    ensures { result ≡ name_number (spelled names.now.keys) name.now }
+pub fn name_at(names: &NamePool, name: &[char]) -> usize
+    ensures { result ≡ name_number names.now name.now }
 {
-    match place_of_name(names, name) {
-        Some(place) => place,
-        None => 0,
-    }
+    names.number(name)
 }
 
 /// The place of a constant in the pool.
