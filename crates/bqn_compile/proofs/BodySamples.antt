@@ -1,12 +1,12 @@
 -- Each rule of the translation of blocks: their order, their parents, the kinds of their bodies, and headers.
-use Rattle.std.proofs.Common.{◌≡◌, pos, List, [], ◌∷◌, refl}
+use Rattle.std.proofs.Common.{◌≡◌, ℕ, pos, List, [], ◌∷◌, Result, Ok, Err, refl}
 use lib.Chars.{codes}
 use Rattle.bqn_syntax.specs.declared.tree.Class.TheVariants as class
 use Rattle.bqn_code.specs.declared.constant.Const.TheVariants as const
 use Rattle.bqn_code.specs.declared.instr.Instr.{Instr}
 use Rattle.bqn_code.specs.declared.instr.Instr.TheVariants as i
 use Rattle.bqn_code.specs.Plain.{Skip, Define, ListPattern, Literal, patterns}
-use Rattle.bqn_compile.proofs.Compiling.{with_tree, tree_code, code_of, inner_blocks, body, exporting, block, program, nums, code}
+use Rattle.bqn_compile.proofs.Sources.{with_tree, tree_code, code_of, inner_blocks, body, exporting, block, program, nums, code}
 
 abbrev return : List Instr
 return = i.Return ∷ []

@@ -1,4 +1,18 @@
-pub mod Compiling
+pub mod verified
+pub mod Counts
+pub mod Gathered
+pub mod Keys
+pub mod Yielded
+pub mod Walks
+pub mod Walked
+pub mod Onward
+pub mod Turning
+pub mod Bodies
+pub mod Headers
+pub mod Loops
+pub mod Reading
+pub mod Unstarted
+pub mod Sources
 mod Samples
 mod BodySamples
 mod RunSamples

@@ -1,14 +1,16 @@
 -- Each rule of the translation of statements and expressions, and of the pools.
-use Rattle.std.proofs.Common.{◌≡◌, ℕ, pos, negsuc, List, [], ◌∷◌, Ok, Err, refl}
+use Rattle.std.proofs.Common.{◌≡◌, ℕ, pos, negsuc, List, [], ◌∷◌, ◌++◌, Result, Ok, Err, refl}
 use lib.Chars.{codes}
 use Rattle.bqn_base.specs.declared.refusal.Refusal.{Refusal}
-use Rattle.bqn_base.specs.declared.refusal.Refusal.TheVariants.{TooMany}
+use Rattle.bqn_base.specs.declared.refusal.Refusal.TheVariants.{TooMany, Undeclared}
+use Rattle.bqn_syntax.specs.declared.tree.Class.TheVariants as class
+use Rattle.bqn_code.specs.declared.constant.Const.{Const}
 use Rattle.bqn_code.specs.declared.constant.Const.TheVariants as const
 use Rattle.bqn_code.specs.declared.instr.Instr.{Instr}
 use Rattle.bqn_code.specs.declared.instr.Instr.TheVariants as i
-use Rattle.bqn_code.specs.Plain.{Skip, Define, Change, ListPattern, patterns}
+use Rattle.bqn_code.specs.Plain.{Pattern, Skip, Define, Change, ListPattern, Literal, patterns, Code}
 use Rattle.bqn_compile.specs.Gathering.{Most}
-use Rattle.bqn_compile.proofs.Compiling.{code_of, code_within, programs, body, exporting, program, nums, code}
+use Rattle.bqn_compile.proofs.Sources.{code_of, code_within, programs, inner_blocks, body, exporting, block, program, nums, code}
 
 -- a program whose body has this code
 abbrev just : List Instr → List (List Instr)
@@ -94,9 +96,12 @@ stores = refl
 abbrev most : (constants names blocks : ℕ) → Most
 most c n b = record { constants = c; names = n; blocks = b }
 
+abbrev refusals_behind : List (List ℕ) → Most → List (List ℕ) → List (List Refusal)
+refusals_behind known m [] = []
+refusals_behind known m (text ∷ texts) = elim (code_within m known text) [ Ok code ↦ [] | Err r ↦ r ∷ [] ] ∷ refusals_behind known m texts
+
 abbrev refusals : Most → List (List ℕ) → List (List Refusal)
-refusals m [] = []
-refusals m (text ∷ texts) = elim (code_within m text) [ Ok code ↦ [] | Err r ↦ r ∷ [] ] ∷ refusals m texts
+refusals = refusals_behind []
 
 abbrev at : ℕ → ℕ → Refusal
 at line column = TooMany (record { line = line; column = column })
@@ -108,3 +113,16 @@ too_many = refl
 
 few : refusals (most 0 0 0) (codes "+·" ∷ codes "-1" ∷ codes "F←+" ∷ codes "-{𝕩}" ∷ []) ≡ [] ∷ (at 1 2 ∷ []) ∷ (at 1 1 ∷ []) ∷ (at 1 2 ∷ []) ∷ []
 few = refl
+
+-- a name, a block or a constant, whichever is first; equal constants are one, and each body counts its own names
+first : refusals (most 1 1 1) (codes "a←1⋄b←2" ∷ codes "{a←2}⋄{3}" ∷ codes "1-2⋄{3}" ∷ codes "{{a←b←1}}" ∷ codes "{a 𝕊 b: \"c\"}" ∷ codes "10‿1e1‿1_0" ∷ codes "a←{b←1⋄b↩1⋄b}⋄a" ∷ codes "n←{b⇐1}⋄n.b" ∷ []) ≡
+    (at 1 5 ∷ []) ∷ (at 1 7 ∷ []) ∷ (at 1 3 ∷ []) ∷ (at 1 2 ∷ []) ∷ (at 1 6 ∷ []) ∷ [] ∷ [] ∷ [] ∷ []
+first = refl
+
+-- the names of a session count in the top body alone
+session : refusals_behind (codes "a" ∷ codes "b" ∷ []) (most 2 2 2) (codes "b←1" ∷ codes "a←1⋄c←2" ∷ codes "c⇐1" ∷ codes "{c←1}" ∷ []) ≡ [] ∷ (at 1 5 ∷ []) ∷ (at 1 1 ∷ []) ∷ [] ∷ []
+session = refl
+
+-- the refusals of the scope come before
+last : refusals (most 0 0 0) (codes "a←{1}⋄b" ∷ []) ≡ (Undeclared (record { line = 1; column = 7 }) ∷ []) ∷ []
+last = refl

@@ -1,10 +1,10 @@
 -- The code of headers, statements and bodies.
-use Rattle.std.specs.Prelude.{ℕ, Bool, true, false, List, [], ◌∷◌, ◌++◌, length, map, Option, Some, None}
+use Rattle.std.specs.Prelude.{ℕ, Bool, true, false, List, [], ◌∷◌, ◌++◌, length, map, slice_get, Option, Some, None}
 use Rattle.bqn_base.specs.declared.role.Role.TheVariants as role
 use Rattle.bqn_syntax.specs.declared.token.Kind.{Kind}
 use Rattle.bqn_syntax.specs.declared.token.Kind.TheVariants as kind
 use Rattle.bqn_syntax.specs.declared.token.Token.{Token}
-use Rattle.bqn_syntax.specs.Plain.{Pattern, Name, Header, Eval, Predicate, Export, BodyTree, body, Stmts, no_stmts, and_stmts}
+use Rattle.bqn_syntax.specs.Plain.{Pattern, Name, Header, Stmt, Eval, Predicate, Export, BodyTree, body, Stmts, no_stmts, and_stmts}
 use Rattle.bqn_syntax.specs.Classes.{Calls, Monadic, Dyadic, Both, body_calls, has_predicate}
 use Rattle.bqn_syntax.specs.Exporting.{stmts_export}
 use Rattle.bqn_syntax.specs.Scope.{Seen}
@@ -13,7 +13,8 @@ use Rattle.bqn_syntax.specs.Bodies.{BodyNames}
 use Rattle.bqn_code.specs.declared.instr.Instr.{Instr}
 use Rattle.bqn_code.specs.declared.instr.Instr.TheVariants as i
 use Rattle.bqn_code.specs.declared.code.Body.{Body}
-use Rattle.bqn_compile.specs.Counting.{Count, past, in_argument, in_operand, in_token, in_header, in_stmt}
+use Rattle.bqn_compile.specs.declared.count.Count.{Count}
+use Rattle.bqn_compile.specs.Counting.{past, in_argument, in_operand, in_token, in_header, in_stmt}
 use Rattle.bqn_compile.specs.Pools.{name_number, seen_at}
 use Rattle.bqn_compile.specs.Expressions.{Setting, expr_code}
 

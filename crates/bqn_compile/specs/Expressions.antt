@@ -9,13 +9,16 @@ use Rattle.bqn_syntax.specs.declared.tree.Arrow.{Arrow}
 use Rattle.bqn_syntax.specs.declared.tree.Arrow.TheVariants as arrow
 use Rattle.bqn_syntax.specs.declared.tree.Class.{Class}
 use Rattle.bqn_syntax.specs.declared.tree.Class.TheVariants as class
-use Rattle.bqn_syntax.specs.Plain.{Pattern, Name, Expr, Value, Train, Modifier, Use, One, Two, Part, Leaf, Elements, Merge, Paren, Block, Field, Strand, Nothing, Step, Apply, Assign, Modify, block, Derived, derived, none, some, Exprs, no_exprs, and_exprs, Uses, no_uses, and_uses, Parts, no_parts, and_parts, Steps, no_steps, and_steps, Deriveds, no_deriveds, and_deriveds}
+use Rattle.bqn_syntax.specs.Plain.{Pattern, Name, Expr, Value, Train, Modifier, Use, One, Two, Part, Leaf, Elements, Merge, Paren, Block, Field, Strand, Nothing, Step, Apply, Assign, Modify, Stmt, Eval, Predicate, Export, BlockTree, block, BodyTree, body, Derived, derived, MaybePart, none, some, Exprs, no_exprs, and_exprs, Uses, no_uses, and_uses, Parts, no_parts, and_parts, Steps, no_steps, and_steps, Stmts, no_stmts, and_stmts, Bodies, no_bodies, and_bodies, Deriveds, no_deriveds, and_deriveds}
 use Rattle.bqn_syntax.specs.Scope as scope
 use Rattle.bqn_syntax.specs.Scope.{Seen, name_of, same_name, system_names}
 use Rattle.bqn_code.specs.declared.constant.Const.{Const}
 use Rattle.bqn_code.specs.declared.instr.Instr.{Instr}
 use Rattle.bqn_code.specs.declared.instr.Instr.TheVariants as i
-use Rattle.bqn_compile.specs.Counting.{Count, past, in_token, in_targets, in_part, in_steps, in_derived, in_use, in_expr}
+use Rattle.bqn_compile.specs.declared.count.Count.{Count}
+use Rattle.bqn_compile.specs.declared.read.Read.{Read}
+use Rattle.bqn_compile.specs.declared.read.Read.TheVariants as read
+use Rattle.bqn_compile.specs.Counting.{past, in_token, in_targets, in_part, in_steps, in_derived, in_use, in_expr}
 use Rattle.bqn_compile.specs.Pools.{constant_of, constant_number, name_number, seen_at}
 
 -- the uses of names in text order, and the pools
@@ -81,27 +84,23 @@ targets_code g c (t ∷ ts) = targets_code g (past c (in_token t.0)) ts ++ store
 
 -- ---- trains
 
--- how many parts of a train are read from the right, two or three of them being made one part
-pub data Parts' : Type 0 where
-  no_part one_part two_parts : Parts'
+abbrev pub and_one : Read → Read
+and_one read.No = read.One
+and_one read.One = read.Two
+and_one read.Two = read.One
 
-abbrev pub and_one : Parts' → Parts'
-and_one no_part = one_part
-and_one one_part = two_parts
-and_one two_parts = one_part
-
-abbrev pub parts_read : Deriveds → Parts'
-parts_read no_deriveds = no_part
+abbrev pub parts_read : Deriveds → Read
+parts_read no_deriveds = read.No
 parts_read (and_deriveds d ds) = and_one (parts_read ds)
 
 -- behind one more part, that part and two others are made one
-abbrev pub fork_code : Parts' → List Instr
-fork_code two_parts = i.Train3 ∷ []
-fork_code read = []
+abbrev pub fork_code : Read → List Instr
+fork_code read.Two = i.Train3 ∷ []
+fork_code r = []
 
-abbrev pub atop_code : Parts' → List Instr
-atop_code two_parts = i.Train2 ∷ []
-atop_code read = []
+abbrev pub atop_code : Read → List Instr
+atop_code read.Two = i.Train2 ∷ []
+atop_code r = []
 
 -- ---- lists
 

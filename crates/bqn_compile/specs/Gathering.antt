@@ -10,7 +10,7 @@ use Rattle.bqn_syntax.specs.declared.token.Token.{Token}
 use Rattle.bqn_syntax.specs.declared.tree.Arrow.{Arrow}
 use Rattle.bqn_syntax.specs.Plain.{Name, Skip, Literal, ListPattern, StrandPattern, Patterns, no_patterns, and_patterns, Header, Expr, Value, Train, Modifier, Use, One, Two, Part, Leaf, Elements, Merge, Paren, Block, Field, Strand, Nothing, Step, Apply, Assign, Modify, Stmt, Eval, Predicate, Export, BlockTree, block, BodyTree, body, Derived, derived, MaybePart, none, some, Exprs, no_exprs, and_exprs, Uses, no_uses, and_uses, Parts, no_parts, and_parts, Steps, no_steps, and_steps, Stmts, no_stmts, and_stmts, Bodies, no_bodies, and_bodies, Deriveds, no_deriveds, and_deriveds}
 use Rattle.bqn_syntax.specs.Plain as tree
-use Rattle.bqn_syntax.specs.Order.{How, Reads, Defines, Changes, by_arrow}
+use Rattle.bqn_syntax.specs.Order.{How, Reads, Defines, Exports, Changes, Shows, by_arrow}
 use Rattle.bqn_syntax.specs.Scope as scope
 use Rattle.bqn_syntax.specs.Scope.{defines, has, name_of}
 use Rattle.bqn_syntax.specs.Bodies.{exports_it}
@@ -32,6 +32,9 @@ pub record Most : Type 0 where
   pub constants : ℕ
   pub names : ℕ
   pub blocks : ℕ
+
+abbrev pub the_most : Most
+the_most = record { constants = 65535; names = 65535; blocks = 65535 }
 
 abbrev pub Gathers : Type 0
 Gathers = Gathered → Result Gathered Refusal
@@ -83,12 +86,12 @@ room_for m false slot = true
 abbrev pub next_use : Gathers
 next_use g = Ok (record g { uses = suc g.uses })
 
-abbrev pub refers : Most → List scope.Use → How → Place → Gathers
-refers m uses how place g = and_on (if_room (room_for m (defines how) (seen_at uses g.uses).slot) place g) next_use
+abbrev pub refers : Most → List scope.Use → (defining : Bool) → Place → Gathers
+refers m uses defining place g = and_on (if_room (room_for m defining (seen_at uses g.uses).slot) place g) next_use
 
 -- a name, a literal, or what has no part in the pools
 abbrev pub leaf : Most → List scope.Use → How → Kind → Place → Gathers
-leaf m uses how (kind.Word name r) place = refers m uses how place ▹ pooled_if (exports_it how) name
+leaf m uses how (kind.Word name r) place = refers m uses (defines how) place ▹ pooled_if (exports_it how) name
 leaf m uses how k place = constant m (constant_of k) place
 
 abbrev pub block_opened : Gathers
@@ -106,12 +109,25 @@ fields (t ∷ ts) = pooled (name_of t) ▹ fields ts
 
 -- a leaf of a pattern that a value is taken apart by, where each name is pooled
 abbrev pub pattern_leaf : Most → List scope.Use → How → Kind → Place → Gathers
-pattern_leaf m uses how (kind.Word name r) place = refers m uses how place ▹ pooled name
+pattern_leaf m uses how (kind.Word name r) place = refers m uses (defines how) place ▹ pooled name
 pattern_leaf m uses how k place = constant m (constant_of k) place
 
 -- behind its leaves, a pattern whose uses begin with this one
 abbrev pub with_pattern : List scope.Use → How → tree.Pattern → ℕ → Gathers
 with_pattern uses how q k g = Ok (record g { patterns = g.patterns ++ pattern_code uses g.constants g.names how k q ∷ [] })
+
+-- exported names without a value
+abbrev mutual
+  pub shown : tree.Pattern → Gathers
+  shown (Name t) = pooled (name_of t)
+  shown (Skip place) = done
+  shown (Literal t) = done
+  shown (ListPattern qs) = all_shown qs
+  shown (StrandPattern qs) = all_shown qs
+
+  pub all_shown : Patterns → Gathers
+  all_shown no_patterns = done
+  all_shown (and_patterns q qs) = shown q ▹ all_shown qs
 
 module _ (m : Most) (uses : List scope.Use) where
   abbrev pub token : How → Token → Gathers
@@ -136,19 +152,6 @@ module _ (m : Most) (uses : List scope.Use) where
   abbrev pub target : How → tree.Pattern → Gathers
   target how (Name t) = token how t
   target how q = pattern how q
-
-  -- exported names without a value
-  abbrev mutual
-    pub shown : tree.Pattern → Gathers
-    shown (Name t) = pooled (name_of t)
-    shown (Skip place) = done
-    shown (Literal t) = done
-    shown (ListPattern qs) = all_shown qs
-    shown (StrandPattern qs) = all_shown qs
-
-    pub all_shown : Patterns → Gathers
-    all_shown no_patterns = done
-    all_shown (and_patterns q qs) = shown q ▹ all_shown qs
 
   -- an argument of a header; `𝕨` and `𝕩` themselves ask for nothing
   abbrev pub named_argument : Kind → Token → Gathers

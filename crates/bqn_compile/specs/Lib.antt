@@ -6,3 +6,7 @@ pub mod Expressions
 pub mod Bodies
 pub mod Blocks
 pub mod Translation
+pub mod Shown
+pub mod Walking
+pub mod Sources
+pub mod Laws

@@ -1,10 +1,11 @@
 -- The patterns of a code.
-use Rattle.std.specs.Prelude.{ℕ, ◌+◌, List, Option, Some, None}
+use Rattle.std.specs.Prelude.{ℕ, ◌+◌, List, [], ◌∷◌, Option, Some, None}
+use Rattle.bqn_syntax.specs.declared.token.Token.{Token}
 use Rattle.bqn_syntax.specs.Plain as tree
-use Rattle.bqn_syntax.specs.Order.{How, Changes}
+use Rattle.bqn_syntax.specs.Order.{How, Reads, Defines, Exports, Changes, Shows}
 use Rattle.bqn_syntax.specs.Scope.{Seen, Use, name_of}
 use Rattle.bqn_code.specs.declared.constant.Const.{Const}
-use Rattle.bqn_code.specs.Plain.{Pattern, Skip, Define, Change, ListPattern, Literal, Patterns, no_patterns, and_patterns}
+use Rattle.bqn_code.specs.Plain.{Pattern, Skip, Define, Change, ListPattern, Literal, patterns}
 use Rattle.bqn_compile.specs.Counting.{in_leaves}
 use Rattle.bqn_compile.specs.Pools.{constant_of, constant_number, name_number, seen_at}
 
@@ -24,9 +25,9 @@ module _ (uses : List Use) (constants : List Const) (names : List (List ℕ)) (h
     pattern_code k (tree.Name t) = stored_leaf how (seen_at uses k) (name_number names (name_of t))
     pattern_code k (tree.Skip place) = Skip
     pattern_code k (tree.Literal t) = literal_leaf constants (constant_of t.kind)
-    pattern_code k (tree.ListPattern qs) = ListPattern (patterns_code k qs)
-    pattern_code k (tree.StrandPattern qs) = ListPattern (patterns_code k qs)
+    pattern_code k (tree.ListPattern qs) = ListPattern (patterns (patterns_code k qs))
+    pattern_code k (tree.StrandPattern qs) = ListPattern (patterns (patterns_code k qs))
 
-    pub patterns_code : ℕ → tree.Patterns → Patterns
-    patterns_code k tree.no_patterns = no_patterns
-    patterns_code k (tree.and_patterns q qs) = and_patterns (pattern_code k q) (patterns_code (k + (in_leaves q).uses) qs)
+    pub patterns_code : ℕ → tree.Patterns → List Pattern
+    patterns_code k tree.no_patterns = []
+    patterns_code k (tree.and_patterns q qs) = pattern_code k q ∷ patterns_code (k + (in_leaves q).uses) qs

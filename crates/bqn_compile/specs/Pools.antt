@@ -1,5 +1,5 @@
 -- The constants and names of a code by their numbers, and what a name refers to.
-use Rattle.std.specs.Prelude.{ℕ, nat_eq, Bool, false, List, position, slice_get, Option, Some, None}
+use Rattle.std.specs.Prelude.{ℕ, nat_eq, Bool, true, false, List, [], ◌∷◌, position, slice_get, Option, Some, None}
 use Rattle.std.specs.Ordering.{int_eq}
 use Rattle.std.specs.Cmp.Lexicographic.{pointwise}
 use Rattle.bqn_syntax.specs.declared.token.Kind.{Kind}
@@ -22,7 +22,7 @@ same_constant (const.Text cs) (const.Text ds) = pointwise nat_eq cs ds
 same_constant _ _ = false
 
 abbrev pub place_among : List Const → Const → Option ℕ
-place_among constants c = position (λ other. same_constant other c) constants
+place_among constants c = position (same_constant c) constants
 
 -- what is pooled has a number
 abbrev pub or_none : Option ℕ → ℕ

@@ -1,5 +1,5 @@
 -- The code of a program: this project's own.
-use Rattle.std.specs.Prelude.{List, [], ◌∷◌, slice_get, None, Result, Ok, Err}
+use Rattle.std.specs.Prelude.{ℕ, List, [], ◌∷◌, slice_get, Option, Some, None, Result, Ok, Err}
 use Rattle.bqn_base.specs.declared.refusal.Refusal.{Refusal}
 use Rattle.bqn_syntax.specs.declared.tree.Class.TheVariants as class
 use Rattle.bqn_syntax.specs.Plain.{Stmts, body}
@@ -8,8 +8,8 @@ use Rattle.bqn_syntax.specs.Scope as scope
 use Rattle.bqn_syntax.specs.Bodies.{BodyNames, Resolution}
 use Rattle.bqn_code.specs.declared.code.Block.{Block}
 use Rattle.bqn_code.specs.Plain.{Code}
-use Rattle.bqn_compile.specs.Counting.{Count}
-use Rattle.bqn_compile.specs.Gathering.{Gathered, Most, gathered}
+use Rattle.bqn_compile.specs.declared.count.Count.{Count}
+use Rattle.bqn_compile.specs.Gathering.{Gathered, Most, the_most, gathered}
 use Rattle.bqn_compile.specs.Expressions.{Setting}
 use Rattle.bqn_compile.specs.Bodies.{names_in, body_code}
 use Rattle.bqn_compile.specs.Blocks.{stmts_blocks}
@@ -43,4 +43,4 @@ translated_within m r ss = with_pools r ss (gathered m r.uses ss)
 
 -- the code of a tree, or the first token of the text that is one too many
 abbrev pub translated : Resolution → Stmts → Result Code Refusal
-translated = translated_within (record { constants = 65535; names = 65535; blocks = 65535 })
+translated = translated_within the_most

@@ -30,8 +30,9 @@ tree_code = resolved_code translated
 abbrev pub code_of : List ℕ → Result Code Refusal
 code_of = with_tree (tree_code [])
 
-abbrev pub code_within : Most → List ℕ → Result Code Refusal
-code_within m = with_tree (resolved_code (translated_within m) [])
+-- where there may be so many, behind the names of a session
+abbrev pub code_within : Most → List (List ℕ) → List ℕ → Result Code Refusal
+code_within m names = with_tree (resolved_code (translated_within m) names)
 
 -- ---- what is looked at
 
