@@ -15,6 +15,7 @@ mod gathering;
 mod header;
 mod key;
 mod leaf;
+mod no_memory;
 mod parts;
 mod patterns;
 mod places;
