@@ -31,6 +31,7 @@ pub struct Walk {
     pub blocks: Vec<Block>,
 }
 
+/// Goes past so much of the text.
 #[tactic(auto, using(crate::proofs::Walks::push_laws), unfolding(crate::specs::Walking::walked, crate::specs::Walking::onward, crate::specs::Walking::skip))]
 pub fn skip(out: &mut Walk, so: Count) -> Result<(), NoMemory>
     ensures walked { OnOk result (walked out.new ≡ skipped so (walked out.old)) }
@@ -40,6 +41,8 @@ pub fn skip(out: &mut Walk, so: Count) -> Result<(), NoMemory>
     Ok(())
 }
 
+/// Pushes an instruction: the one before those pushed so far within an expression, and behind them
+/// elsewhere.
 #[tactic(auto, using(crate::proofs::Walks::push_laws), unfolding(crate::specs::Walking::walked, crate::specs::Walking::onward, crate::specs::Walking::push, crate::specs::Walking::append))]
 pub fn push(out: &mut Walk, i: Instr) -> Result<(), NoMemory>
     ensures walked { OnOk result (walked out.new ≡ pushed i (walked out.old)) }
