@@ -29,7 +29,9 @@ use Rattle.std.specs.Prelude.{ℤ}
 use Rattle.bqn_cli.specs.declared.halted.Halted.{Halted}
 use Rattle.bqn_cli.specs.declared.halted.Halted.TheVariants as halted
 use Rattle.bqn_cli.specs.Command.{Run}
-use Rattle.bqn_cli.specs.Answer.{Answer, FileAnswers, source_answer, tokens_answer, parsed_answer, form_answer, scoped_answer, ended, refused, default_steps}
+use Rattle.bqn_code.specs.Plain.{Code}
+use Rattle.bqn_compile.specs.Translation.{translated}
+use Rattle.bqn_cli.specs.Answer.{Answer, FileAnswers, source_answer, tokens_answer, parsed_answer, form_answer, scoped_answer, ended, refused, default_steps, coded_answer}
 use Rattle.bqn_cli.specs.Headline.{Whole, Prefix, FileFits, Meets}
 use Rattle.bqn_cli.specs.Writing.{Gives, fetched_answer, status_of}
 
@@ -140,8 +142,12 @@ form_answer-status : (form : Option (List Stmt)) → IsRunStatus (form_answer fo
 form_answer-status None = tt
 form_answer-status (Some form) = ended-status (evaluated form default_steps) (has_steps-statements form (record { written = []; left = 999999; vars = [] }))
 
+coded_answer-status : (tokens : List Token) (stmts : Stmts) (answer : Result Code Refusal) → IsRunStatus (coded_answer tokens stmts answer).status
+coded_answer-status tokens stmts (Ok code) = form_answer-status (form_of tokens stmts)
+coded_answer-status tokens stmts (Err r) = tt
+
 scoped_answer-status : (tokens : List Token) (stmts : Stmts) (answer : Result Resolution Refusal) → IsRunStatus (scoped_answer tokens stmts answer).status
-scoped_answer-status tokens stmts (Ok resolution) = form_answer-status (form_of tokens stmts)
+scoped_answer-status tokens stmts (Ok so) = coded_answer-status tokens stmts (translated so stmts)
 scoped_answer-status tokens stmts (Err r) = tt
 
 parsed_answer-status : (tokens : List Token) (answer : Result Stmts Refusal) → IsRunStatus (parsed_answer tokens answer).status

@@ -45,9 +45,7 @@ fn translated_code(alloc: Global, resolved: &Resolved) -> Result<Code, CompileEr
     let statements = resolved.tree.statements.list();
     let mut pools = Pools::new(alloc);
     gathering::stmts(&mut pools, uses, statements)?;
-    let Ok(blocks) = program_blocks(uses, &pools, resolved.bodies.list(), statements) else {
-        return Err(CompileError::Memory);
-    };
+    let blocks = program_blocks(uses, &pools, resolved.bodies.list(), statements)?;
     let constants = constants(alloc, pools.constants.as_slice())?;
     let names = pools.names.row()?;
     let Pools { patterns, .. } = pools;

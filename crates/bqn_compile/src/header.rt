@@ -8,8 +8,8 @@ ghost use Rattle.bqn_compile.specs.Pools.{seen_at};
 ghost use Rattle.bqn_compile.specs.Walking.{append, argument_behind, asks, header_behind, name_behind, onward, operand_behind, setting_of};
 
 use crate::counting;
-use crate::error::CompileError;
 use crate::leaf::seen;
+use crate::no_memory::NoMemory;
 use crate::walk::{Known, Walk, push, skip};
 use bqn_base::Role;
 use bqn_code::Instr;
@@ -31,7 +31,7 @@ fn asks_for(q: &Pattern) -> bool
 
 /// Pushes an argument and matches it by the pattern with this number.
 #[tactic(auto, using(bqn_syntax::specs::Levels::levels, crate::proofs::Headers::header_laws))]
-fn matched(i: Instr, number: u32, q: &Option<Pattern>, out: &mut Walk) -> Result<(), CompileError>
+fn matched(i: Instr, number: u32, q: &Option<Pattern>, out: &mut Walk) -> Result<(), NoMemory>
     ensures { OnOk result (onward out.new ≡ append (argument_code i number (option_map pattern_of q.now)) (onward out.old)) }
 {
     let Some(x) = q else {
@@ -45,7 +45,7 @@ fn matched(i: Instr, number: u32, q: &Option<Pattern>, out: &mut Walk) -> Result
 }
 
 #[tactic(auto, using(crate::proofs::Headers::header_laws), unfolding(crate::specs::Walking::argument_behind))]
-fn argument(i: Instr, q: &Option<Pattern>, out: &mut Walk) -> Result<(), CompileError>
+fn argument(i: Instr, q: &Option<Pattern>, out: &mut Walk) -> Result<(), NoMemory>
     ensures { OnOk result (onward out.new ≡ argument_behind i (option_map pattern_of q.now) (onward out.old)) }
 {
     matched(i, out.at.patterns, q, out)?;
@@ -54,7 +54,7 @@ fn argument(i: Instr, q: &Option<Pattern>, out: &mut Walk) -> Result<(), Compile
 
 /// Defines a name that a header has for a special name.
 #[tactic(auto, using(crate::proofs::Headers::header_laws), unfolding(crate::specs::Walking::setting_of))]
-fn named(known: &Known, i: Instr, t: &Token, out: &mut Walk) -> Result<(), CompileError>
+fn named(known: &Known, i: Instr, t: &Token, out: &mut Walk) -> Result<(), NoMemory>
     ensures { OnOk result (onward out.new ≡ append (name_code i (seen_at (setting_of known.now).uses (onward out.old).at.uses) t.now.kind) (onward out.old)) }
 {
     let Kind::Word(_, _) = t.kind else {
@@ -67,7 +67,7 @@ fn named(known: &Known, i: Instr, t: &Token, out: &mut Walk) -> Result<(), Compi
 }
 
 #[tactic(auto, using(crate::proofs::Headers::header_laws), unfolding(crate::specs::Walking::name_behind))]
-fn name(known: &Known, i: Instr, t: &Token, out: &mut Walk) -> Result<(), CompileError>
+fn name(known: &Known, i: Instr, t: &Token, out: &mut Walk) -> Result<(), NoMemory>
     ensures { OnOk result (onward out.new ≡ name_behind (setting_of known.now) i t.now (onward out.old)) }
 {
     named(known, i, t, out)?;
@@ -75,7 +75,7 @@ fn name(known: &Known, i: Instr, t: &Token, out: &mut Walk) -> Result<(), Compil
 }
 
 #[tactic(auto, using(crate::proofs::Headers::header_laws))]
-fn operand(known: &Known, i: Instr, t: &Option<Token>, out: &mut Walk) -> Result<(), CompileError>
+fn operand(known: &Known, i: Instr, t: &Option<Token>, out: &mut Walk) -> Result<(), NoMemory>
     ensures { OnOk result (onward out.new ≡ operand_behind (setting_of known.now) i t.now (onward out.old)) }
 {
     match t {
@@ -95,7 +95,7 @@ fn own_instr(kind: &Kind) -> Instr
 }
 
 #[tactic(auto, using(crate::proofs::Headers::header_laws))]
-pub fn header(known: &Known, h: &Option<Header>, out: &mut Walk) -> Result<(), CompileError>
+pub fn header(known: &Known, h: &Option<Header>, out: &mut Walk) -> Result<(), NoMemory>
     ensures { OnOk result (onward out.new ≡ header_behind (setting_of known.now) (option_map header_of h.now) (onward out.old)) }
 {
     let Some(h) = h else {

@@ -7,8 +7,8 @@ ghost use Rattle.bqn_compile.specs.Pools.{constant_of, seen_at};
 ghost use Rattle.bqn_compile.specs.Expressions.{load as load_of, store as store_of, special_instr as special_in, system_instr as system_in, literal_instr as literal_in, leaf_instr as leaf_in, block_instr as block_in};
 ghost use Rattle.bqn_compile.specs.Shown.{constants_shown, setting_shown, slot_shown};
 
-use crate::error::CompileError;
 use crate::key::Key;
+use crate::no_memory::NoMemory;
 use crate::pools::{Pools, constant_at};
 use bqn_code::Instr;
 use bqn_scope::Use;
@@ -22,7 +22,7 @@ pub struct Slot {
 }
 
 /// What the use with this number refers to.
-pub fn seen(uses: &[Use], number: u32) -> Result<Slot, CompileError>
+pub fn seen(uses: &[Use], number: u32) -> Result<Slot, NoMemory>
     ensures { IfOk result (λ at. slot_shown at ≡ seen_at (map use_shown uses.now) number) }
 {
     let Some(found) = uses.get(number as usize) else {
@@ -30,7 +30,7 @@ pub fn seen(uses: &[Use], number: u32) -> Result<Slot, CompileError>
     };
     match u16::try_from(found.slot) {
         Ok(slot) => Ok(Slot { up: found.up, slot }),
-        Err(_) => Err(CompileError::Memory),
+        Err(_) => Err(NoMemory),
     }
 }
 
@@ -89,22 +89,22 @@ pub fn system(name: &[char]) -> Instr
     }
 }
 
-pub fn literal(pools: &Pools, kind: &Kind) -> Result<Instr, CompileError>
+pub fn literal(pools: &Pools, kind: &Kind) -> Result<Instr, NoMemory>
     ensures { IfOk result (λ i. i ≡ literal_in (constants_shown pools.now.constants.keys) (constant_of kind.now)) }
 {
     let key = match Key::of(pools.alloc, kind) {
         Ok(Some(key)) => key,
         Ok(None) => return Ok(Instr::Nothing),
-        Err(e) => return Err(e),
+        Err(_) => return Err(NoMemory),
     };
     match u16::try_from(constant_at(&pools.constants, &key)) {
         Ok(number) => Ok(Instr::Const(number)),
-        Err(_) => Err(CompileError::Memory),
+        Err(_) => Err(NoMemory),
     }
 }
 
 /// A name, a literal or a primitive by itself, a name being the use with this number.
-pub fn leaf(uses: &[Use], pools: &Pools, number: u32, kind: &Kind) -> Result<Instr, CompileError>
+pub fn leaf(uses: &[Use], pools: &Pools, number: u32, kind: &Kind) -> Result<Instr, NoMemory>
     ensures { IfOk result (λ i. i ≡ leaf_in (setting_shown uses.now pools.now) number kind.now) }
 {
     match kind {
@@ -120,11 +120,11 @@ pub fn leaf(uses: &[Use], pools: &Pools, number: u32, kind: &Kind) -> Result<Ins
 }
 
 /// A block's value, or its run where it stands.
-pub fn block(class: Class, number: u32) -> Result<Instr, CompileError>
+pub fn block(class: Class, number: u32) -> Result<Instr, NoMemory>
     ensures { IfOk result (λ i. i ≡ block_in class number) }
 {
     let Ok(number) = u16::try_from(number) else {
-        return Err(CompileError::Memory);
+        return Err(NoMemory);
     };
     match class {
         Class::Immediate => Ok(Instr::Run(number)),

@@ -17,6 +17,7 @@ mod key;
 mod laws;
 mod leaf;
 mod name_pool;
+mod no_memory;
 mod parts;
 mod patterns;
 mod places;
