@@ -15,6 +15,7 @@ pub fn pushed<T: Drop>(list: Vec<T>, last: T) -> Result<Vec<T>, Memory>
 }
 
 /// One more at the end.
+#[inline(always)]
 pub fn push<T: Drop>(all: &mut Vec<T>, one: T) -> Result<(), Memory>
     ensures { OnOk result (all.new.items ≡ all.old.items ++ one ∷ []) }
 {

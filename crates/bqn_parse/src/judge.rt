@@ -113,6 +113,7 @@ fn judge(alloc: Global, tokens: &[Token], place: Place, level: &mut Level) -> Re
 /// The piece that is being read ends at the token at this place. An empty one is none, but
 /// parentheses hold one.
 #[tactic(auto, using(crate::proofs::Walking::end_laws))]
+#[inline(always)]
 pub fn end(
     alloc: Global,
     tokens: &[Token],

@@ -66,6 +66,7 @@ impl Level {
 
     /// One more item in the piece that is being read.
     #[tactic(auto, using(crate::proofs::Walking::append_laws))]
+    #[inline(always)]
     pub fn and_item(&mut self, item: Item) -> Result<(), Memory>
         ensures { IfOk result (λ done. (tokens : List Token) → level_shown tokens self.new ≡ parsing.and_item (item_of item) (level_shown tokens self.old)) }
     {

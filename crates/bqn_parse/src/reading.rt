@@ -13,6 +13,7 @@ pub struct Reading {
 
 /// The reading of these units, which stand in order.
 #[tactic(auto, using(crate::proofs::Backward::unit_laws))]
+#[inline(always)]
 pub fn read(units: Vec<Unit>) -> Reading
     ensures { reading_shown result ≡ backward units.items }
 {
@@ -23,6 +24,7 @@ pub fn read(units: Vec<Unit>) -> Reading
 
 /// The next unit has been taken, and the one left of it is next.
 #[tactic(auto, using(crate::proofs::Backward::unit_laws))]
+#[inline(always)]
 pub fn advance(left: &mut Reading)
     ensures { reading_shown left.new ≡ backward left.old.rest.items }
 {

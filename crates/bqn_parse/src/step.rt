@@ -66,6 +66,7 @@ fn inside_of(bracket: Bracket, ahead: Ahead, level: &Level) -> Inside
 }
 
 /// One more item in the innermost level.
+#[inline(always)]
 fn take(index: usize, item: Item, walk: &mut Walk) -> Result<(), ParseError>
     ensures { (tokens : List Token) → Moves (parsing.taken (item_of item) (drop index tokens) (walk_shown tokens walk.old)) (walk_shown tokens walk.new) result }
 {
@@ -240,6 +241,7 @@ fn colon(
 
 /// One token, which has this index and behind whose bracket this stands.
 #[tactic(auto, using(bqn_syntax::specs::Levels::levels))]
+#[inline(always)]
 pub fn step(
     alloc: Global,
     tokens: &[Token],

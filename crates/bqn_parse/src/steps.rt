@@ -95,6 +95,7 @@ fn changed_name(name: Option<Token>, function: Derived, left: &mut Reading) -> N
 }
 
 /// A call of a function, whose left argument is next, if there is one.
+#[inline(always)]
 pub fn called(function: Derived, left: &mut Reading) -> Next
     ensures means { steps_of (Function (derived_of function) ∷ reading_shown left.old) ≡ next_shown result (reading_shown left.new) }
     ensures shorter { left_of result (reading_shown left.new) ≤ length (reading_shown left.old) + 1 }
@@ -164,6 +165,7 @@ fn drawn(arrow: Arrow, left: &mut Reading) -> Next
 }
 
 /// What is done with a value, by what stands left of it.
+#[inline(always)]
 pub fn next_step(left: &mut Reading) -> Next
     ensures means { steps_of (reading_shown left.old) ≡ next_shown result (reading_shown left.new) }
     ensures shorter { left_of result (reading_shown left.new) ≤ length (reading_shown left.old) }

@@ -80,6 +80,7 @@ fn aimed_strand(
 
 /// An element where no arrow follows, behind those that are joined to it.
 #[tactic(auto, using(bqn_syntax::specs::Levels::levels))]
+#[inline(always)]
 fn plain_term(
     alloc: Global,
     grouping: &mut Grouping,
@@ -171,6 +172,7 @@ fn selected(
 }
 
 /// An element that nothing is joined to.
+#[inline(always)]
 fn begin(reader: &mut Reader, element: Element)
     ensures { reader_of reader.new ≡ piece (grouping_shown reader.old.grouping) (items.At [] (element_of element)) }
 {
@@ -179,6 +181,7 @@ fn begin(reader: &mut Reader, element: Element)
 }
 
 /// An element directly behind another one.
+#[inline(always)]
 fn stand_behind(
     alloc: Global,
     reader: &mut Reader,
@@ -195,6 +198,7 @@ fn stand_behind(
 }
 
 /// An element, where one may stand.
+#[inline(always)]
 fn stand(alloc: Global, reader: &mut Reader, element: Element) -> Result<bool, Memory>
     ensures { IfOk result (λ fine. when fine (reader_of reader.new) ≡ stand (grouping_shown reader.old.grouping) (reading_of (elements_of reader.old.joined.items) reader.old.reading) (element_of element)) }
 {
@@ -278,6 +282,7 @@ fn draw(alloc: Global, reader: &mut Reader, arrow: Arrow) -> Result<bool, Memory
 }
 
 /// One more item.
+#[inline(always)]
 fn put(alloc: Global, reader: &mut Reader, item: Item) -> Result<bool, Memory>
     ensures { IfOk result (λ fine. when fine (reader_of reader.new) ≡ put (reader_of reader.old) (item_of item)) }
 {

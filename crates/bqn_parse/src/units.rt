@@ -32,6 +32,7 @@ pub struct Grouping {
 
 /// A part with its modifiers.
 #[tactic(auto, using(bqn_syntax::specs::Levels::levels))]
+#[inline(always)]
 fn unit_of(first: Part, uses: Vec<ModUse>) -> Unit
     ensures { unit_shown result ≡ unit_of (part_of first) (map use_of uses.items) }
 {
@@ -70,6 +71,7 @@ pub fn closed(grouping: &mut Grouping) -> Result<bool, Memory>
 
 /// One more subject or function.
 #[tactic(auto, using(crate::proofs::Backward::unit_laws, bqn_syntax::specs::Levels::levels))]
+#[inline(always)]
 fn operand(alloc: Global, grouping: &mut Grouping, part: Part) -> Result<(), Memory>
     ensures { IfOk result (λ done. grouping_shown grouping.new ≡ operand (backward grouping.old.units.items) (binding_shown grouping.old.binding) (part_of part)) }
 {
@@ -137,6 +139,7 @@ pub fn beside(grouping: &mut Grouping, unit: Unit) -> Result<bool, Memory>
 }
 
 /// One more part.
+#[inline(always)]
 pub fn bind_part(alloc: Global, grouping: &mut Grouping, part: Part) -> Result<bool, Memory>
     ensures { IfOk result (λ fine. when fine (grouping_shown grouping.new) ≡ bind_part (tag (part_of part)) (backward grouping.old.units.items) (binding_shown grouping.old.binding) (part_of part)) }
 {
