@@ -1,5 +1,5 @@
 -- Each rule of the translation of blocks: their order, their parents, the kinds of their bodies, and headers.
-use Rattle.std.proofs.Common.{◌≡◌, ℕ, pos, List, [], ◌∷◌, Result, Ok, Err, refl}
+use Rattle.std.proofs.Common.{◌≡◌, pos, List, [], ◌∷◌, refl}
 use lib.Chars.{codes}
 use Rattle.bqn_syntax.specs.declared.tree.Class.TheVariants as class
 use Rattle.bqn_code.specs.declared.constant.Const.TheVariants as const

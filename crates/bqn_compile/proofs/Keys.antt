@@ -1,5 +1,5 @@
 -- The place of a constant, among keys and among the constants that they stand for.
-use Rattle.std.proofs.Common.{◌≡◌, ◌+◌, ◌++◌, ℕ, Bool, false, not, cond, if◌then◌else◌, List, [], ◌∷◌, ◌<◌, Option, Some, None, Ok, length, map, position, refl, sym, ap, ◌∙◌, arith}
+use Rattle.std.proofs.Common.{◌≡◌, ◌+◌, ◌++◌, ℕ, Bool, false, not, cond, if◌then◌else◌, List, [], ◌∷◌, ◌<◌, Option, Some, None, Ok, length, position, refl, sym, ap, ◌∙◌, arith}
 use Rattle.std.specs.Prelude.{nat_lt}
 use Rattle.std.specs.List.{position_or_len, list_any}
 use Rattle.std.proofs.lemmas.List.{length-map, map-append}

@@ -1,19 +1,16 @@
 -- The code of a program gives what the program means.
-use Rattle.std.proofs.Common.{◌≡◌, ℕ, List, [], ◌∷◌, Option, Some, None, Result, Ok, Err, refl}
+use Rattle.std.proofs.Common.{◌≡◌, ℕ, List, [], ◌∷◌, Option, Ok, Err, refl}
 use lib.Chars.{codes}
 use lib.Utf8.{encode}
 use Rattle.std.specs.Fmt.{digits}
-use Rattle.bqn_base.specs.declared.fault.Fault.{Fault}
 use Rattle.bqn_base.specs.declared.refusal.Refusal.{Refusal}
 use Rattle.bqn_base.specs.Plain.{Value}
-use Rattle.bqn_base.specs.Running.{Res, Gives, Ends}
-use Rattle.bqn_syntax.specs.Plain.{Stmts}
+use Rattle.bqn_base.specs.Running.{Gives, Ends}
 use Rattle.bqn_syntax.specs.Environments as source
 use Rattle.bqn_syntax.specs.Environments.{look, define, change}
 use Rattle.bqn_syntax.specs.Blocks.{Earlier, no_lines, further}
 use Rattle.bqn_syntax.specs.Meaning as source_meaning
 use Rattle.bqn_syntax.specs.Meaning.{Evaluated, Answers, Faults, IsSpent, evaluated_within, evaluated_of, line, at_start}
-use Rattle.bqn_code.specs.Plain.{Code}
 use Rattle.bqn_code.specs.States.{Ran}
 use Rattle.bqn_code.specs.Programs as run
 use Rattle.bqn_code.specs.Programs.{Done, Faulted, Spent, Stuck, Kept, fresh, no_words, exec_within, outcome, written, kept_behind}

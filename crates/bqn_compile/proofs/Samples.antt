@@ -1,16 +1,14 @@
 -- Each rule of the translation of statements and expressions, and of the pools.
-use Rattle.std.proofs.Common.{◌≡◌, ℕ, pos, negsuc, List, [], ◌∷◌, ◌++◌, Result, Ok, Err, refl}
+use Rattle.std.proofs.Common.{◌≡◌, ℕ, pos, negsuc, List, [], ◌∷◌, Ok, Err, refl}
 use lib.Chars.{codes}
 use Rattle.bqn_base.specs.declared.refusal.Refusal.{Refusal}
 use Rattle.bqn_base.specs.declared.refusal.Refusal.TheVariants.{TooMany, Undeclared}
-use Rattle.bqn_syntax.specs.declared.tree.Class.TheVariants as class
-use Rattle.bqn_code.specs.declared.constant.Const.{Const}
 use Rattle.bqn_code.specs.declared.constant.Const.TheVariants as const
 use Rattle.bqn_code.specs.declared.instr.Instr.{Instr}
 use Rattle.bqn_code.specs.declared.instr.Instr.TheVariants as i
-use Rattle.bqn_code.specs.Plain.{Pattern, Skip, Define, Change, ListPattern, Literal, patterns, Code}
+use Rattle.bqn_code.specs.Plain.{Skip, Define, Change, ListPattern, patterns}
 use Rattle.bqn_compile.specs.Gathering.{Most}
-use Rattle.bqn_compile.proofs.Sources.{code_of, code_within, programs, inner_blocks, body, exporting, block, program, nums, code}
+use Rattle.bqn_compile.proofs.Sources.{code_of, code_within, programs, body, exporting, program, nums, code}
 
 -- a program whose body has this code
 abbrev just : List Instr → List (List Instr)

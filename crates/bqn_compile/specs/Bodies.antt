@@ -1,10 +1,10 @@
 -- The code of headers, statements and bodies.
-use Rattle.std.specs.Prelude.{ℕ, Bool, true, false, List, [], ◌∷◌, ◌++◌, length, map, slice_get, Option, Some, None}
+use Rattle.std.specs.Prelude.{ℕ, Bool, true, false, List, [], ◌∷◌, ◌++◌, length, map, Option, Some, None}
 use Rattle.bqn_base.specs.declared.role.Role.TheVariants as role
 use Rattle.bqn_syntax.specs.declared.token.Kind.{Kind}
 use Rattle.bqn_syntax.specs.declared.token.Kind.TheVariants as kind
 use Rattle.bqn_syntax.specs.declared.token.Token.{Token}
-use Rattle.bqn_syntax.specs.Plain.{Pattern, Name, Header, Stmt, Eval, Predicate, Export, BodyTree, body, Stmts, no_stmts, and_stmts}
+use Rattle.bqn_syntax.specs.Plain.{Pattern, Name, Header, Eval, Predicate, Export, BodyTree, body, Stmts, no_stmts, and_stmts}
 use Rattle.bqn_syntax.specs.Classes.{Calls, Monadic, Dyadic, Both, body_calls, has_predicate}
 use Rattle.bqn_syntax.specs.Exporting.{stmts_export}
 use Rattle.bqn_syntax.specs.Scope.{Seen}

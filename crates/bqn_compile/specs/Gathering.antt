@@ -10,7 +10,7 @@ use Rattle.bqn_syntax.specs.declared.token.Token.{Token}
 use Rattle.bqn_syntax.specs.declared.tree.Arrow.{Arrow}
 use Rattle.bqn_syntax.specs.Plain.{Name, Skip, Literal, ListPattern, StrandPattern, Patterns, no_patterns, and_patterns, Header, Expr, Value, Train, Modifier, Use, One, Two, Part, Leaf, Elements, Merge, Paren, Block, Field, Strand, Nothing, Step, Apply, Assign, Modify, Stmt, Eval, Predicate, Export, BlockTree, block, BodyTree, body, Derived, derived, MaybePart, none, some, Exprs, no_exprs, and_exprs, Uses, no_uses, and_uses, Parts, no_parts, and_parts, Steps, no_steps, and_steps, Stmts, no_stmts, and_stmts, Bodies, no_bodies, and_bodies, Deriveds, no_deriveds, and_deriveds}
 use Rattle.bqn_syntax.specs.Plain as tree
-use Rattle.bqn_syntax.specs.Order.{How, Reads, Defines, Exports, Changes, Shows, by_arrow}
+use Rattle.bqn_syntax.specs.Order.{How, Reads, Defines, Changes, by_arrow}
 use Rattle.bqn_syntax.specs.Scope as scope
 use Rattle.bqn_syntax.specs.Scope.{defines, has, name_of}
 use Rattle.bqn_syntax.specs.Bodies.{exports_it}

@@ -1,8 +1,7 @@
 -- The patterns of a code.
 use Rattle.std.specs.Prelude.{ℕ, ◌+◌, List, [], ◌∷◌, Option, Some, None}
-use Rattle.bqn_syntax.specs.declared.token.Token.{Token}
 use Rattle.bqn_syntax.specs.Plain as tree
-use Rattle.bqn_syntax.specs.Order.{How, Reads, Defines, Exports, Changes, Shows}
+use Rattle.bqn_syntax.specs.Order.{How, Changes}
 use Rattle.bqn_syntax.specs.Scope.{Seen, Use, name_of}
 use Rattle.bqn_code.specs.declared.constant.Const.{Const}
 use Rattle.bqn_code.specs.Plain.{Pattern, Skip, Define, Change, ListPattern, Literal, patterns}

@@ -1,5 +1,5 @@
 -- The constants and names of a code by their numbers, and what a name refers to.
-use Rattle.std.specs.Prelude.{ℕ, nat_eq, Bool, true, false, List, [], ◌∷◌, position, slice_get, Option, Some, None}
+use Rattle.std.specs.Prelude.{ℕ, nat_eq, Bool, false, List, position, slice_get, Option, Some, None}
 use Rattle.std.specs.Ordering.{int_eq}
 use Rattle.std.specs.Cmp.Lexicographic.{pointwise}
 use Rattle.bqn_syntax.specs.declared.token.Kind.{Kind}

@@ -72,7 +72,8 @@ fn tree(alloc: Global, tokens: &[Token]) -> Result<Tree, ParseError>
     ensures { Gives (parsed tokens.now) result }
 {
     match nest(alloc, tokens) {
-        Ok(_) => {
+        Ok(groups) => {
+            drop(groups);
             let behind = aheads(alloc, tokens)?;
             walk(alloc, tokens, &behind)
         }

@@ -96,9 +96,9 @@ pub header_none : (h : Option Header) → NoBlocks (in_header h)
 header_none None = nothing_none
 header_none (Some h) =
     both_none (in_argument h.left) _ (argument_none h.left)
-      (both_none (in_operand h.left_operand) _ (operand_none h.left_operand)
-        (both_none (in_token h.own) _ (token_none h.own)
-          (both_none (in_operand h.right_operand) (in_argument h.right) (operand_none h.right_operand) (argument_none h.right))))
+    (both_none (in_operand h.left_operand) _ (operand_none h.left_operand)
+    (both_none (in_token h.own) _ (token_none h.own)
+    (both_none (in_operand h.right_operand) (in_argument h.right) (operand_none h.right_operand) (argument_none h.right))))
 
 module _ (g : Setting) (names : List BodyNames) where
   pub many_bodies : (plain before k : ℕ) (c : Count) (bs : Bodies) → length (bodies_code g names plain before k c bs) ≡ how_many bs

@@ -154,19 +154,19 @@ module _ (o : Made) where
       let y : Walked o here (own_mentions x) no_mentions (past c (in_body x)) g q.0 (BodyFacts here x c) = (one here).run no_mentions c g q.0 state q.1 in
       let z : State o here no_mentions (past c (in_body x)) q.0 = y.state in
       let rest : OutBlock kind b n plain (and_plain x before) (k + 1) bs after last (past c (in_body x)) q.0 g' =
-          others own outer n st kind b plain (and_plain x before) (k + 1) after last fa fl (past c (in_body x)) q.0 g' (record {
-            before = u.0;
-            resolves = u.2;
-            uses = sym (ap (λ (l : List Use). length l) (ok_same z.resolves)) ∙ z.uses;
-            found = found;
-            numbers = numbers;
-            bodies = sym (ap (λ (l : List BodyNames). length l) z.numbers) ∙ z.bodies;
-            some = z.some;
-            first = later k s.first;
-            names = λ j v e. subst (λ i. slice_get o.resolved.bodies i ≡ Some v) (shift k j) (all (suc j) v e);
-            patterns = z.patterns;
-            gathered = z.gathered;
-          }) q.2 in
+      others own outer n st kind b plain (and_plain x before) (k + 1) after last fa fl (past c (in_body x)) q.0 g' (record {
+        before = u.0;
+        resolves = u.2;
+        uses = sym (ap (λ (l : List Use). length l) (ok_same z.resolves)) ∙ z.uses;
+        found = found;
+        numbers = numbers;
+        bodies = sym (ap (λ (l : List BodyNames). length l) z.numbers) ∙ z.bodies;
+        some = z.some;
+        first = later k s.first;
+        names = λ j v e. subst (λ i. slice_get o.resolved.bodies i ≡ Some v) (shift k j) (all (suc j) v e);
+        patterns = z.patterns;
+        gathered = z.gathered;
+      }) q.2 in
       record {
         uses = behind (length after) c.uses (in_body x).uses (in_bodies bs).uses rest.uses;
         bodies = behind (length last) c.bodies (in_body x).bodies (in_bodies bs).bodies rest.bodies;
@@ -174,11 +174,12 @@ module _ (o : Made) where
         gathered = behind g'.uses c.uses (in_body x).uses (in_bodies bs).uses rest.gathered;
         grows = grown_trans y.grows rest.grows;
         facts = λ p.
-          let now : BodyFacts here x c = y.facts (grown_trans rest.grows p) in
-          let later : EveryBodyOf Holds kind b n plain (and_plain x before) (k + 1) (past c (in_body x)) bs × EveryInBodies Holds (k + 1) bs (past c (in_body x)) = rest.facts p in
-          let good : Good n k c x = record { names = names_at n x; there = there; parent = λ i. refl; exported = refl; pooled = y.pooled (grown_trans rest.grows p) tt; passes = now.0 } in
-          ((good, subst (λ i. EveryBodyOf Holds kind b n plain (and_plain x before) i (past c (in_body x)) bs) (add-one k) later.0),
-            (now.1, subst (λ i. EveryInBodies Holds i bs (past c (in_body x))) (add-one k) later.1));
+            let now : BodyFacts here x c = y.facts (grown_trans rest.grows p) in
+            let later : EveryBodyOf Holds kind b n plain (and_plain x before) (k + 1) (past c (in_body x)) bs × EveryInBodies Holds (k + 1) bs (past c (in_body x)) = rest.facts p in
+            let good : Good n k c x = record { names = names_at n x; there = there; parent = λ i. refl; exported = refl; pooled = y.pooled (grown_trans rest.grows p) tt; passes = now.0 } in (
+              (good, subst (λ i. EveryBodyOf Holds kind b n plain (and_plain x before) i (past c (in_body x)) bs) (add-one k) later.0),
+              (now.1, subst (λ i. EveryInBodies Holds i bs (past c (in_body x))) (add-one k) later.1),
+            );
       }
 
   -- ---- one block
@@ -211,19 +212,19 @@ module _ (o : Made) where
           let last : List BodyNames = inside_block (length st.found) (scopes_of bs) found in
           let stay : Front last o.resolved.bodies = front_trans (subst (λ l. Front last l) st.numbers (inside_front h.number k last)) h.bodies_stay in
           let out : OutBlock kind c.blocks h.number (plain_in bs) 0 c.bodies bs u.0 last (past c (one_block (how_many bs))) s.0 g' =
-            inner h.own h.outer h.number h.stands kind c.blocks (plain_in bs) 0 c.bodies u.0 last (front_trans (uses_front (h.own ∷ h.outer) k u.0 h.after u.2) h.uses_stay) stay (past c (one_block (how_many bs))) s.0 g' (record {
-              before = st.before;
-              resolves = u.1;
-              uses = none_more (length st.before) c.uses st.uses;
-              found = found;
-              numbers = ap (λ n. inside_block n (scopes_of bs) found) (sym st.bodies);
-              bodies = added (length found) (length st.found) c.bodies (how_many bs) (length-append st.found new ∙ ap (λ (n : ℕ). length st.found + n) (many_names h.number bs)) st.bodies;
-              some = some_more c.bodies (how_many bs) st.some;
-              first = st.some;
-              names = λ j v q. front_at (c.bodies + j) v (front_trans (inside_block_front (length st.found) (scopes_of bs) found) stay) (subst (λ (n : ℕ). slice_get found (n + j) ≡ Some v) st.bodies (at_back st.found new j v q));
-              patterns = none_more (length s.0.patterns) c.patterns (ap (λ l. length l) kept.patterns ∙ st.patterns);
-              gathered = none_more s.0.uses c.uses (kept.uses ∙ st.gathered);
-            }) s.2 in
+          inner h.own h.outer h.number h.stands kind c.blocks (plain_in bs) 0 c.bodies u.0 last (front_trans (uses_front (h.own ∷ h.outer) k u.0 h.after u.2) h.uses_stay) stay (past c (one_block (how_many bs))) s.0 g' (record {
+            before = st.before;
+            resolves = u.1;
+            uses = none_more (length st.before) c.uses st.uses;
+            found = found;
+            numbers = ap (λ n. inside_block n (scopes_of bs) found) (sym st.bodies);
+            bodies = added (length found) (length st.found) c.bodies (how_many bs) (length-append st.found new ∙ ap (λ (n : ℕ). length st.found + n) (many_names h.number bs)) st.bodies;
+            some = some_more c.bodies (how_many bs) st.some;
+            first = st.some;
+            names = λ j v q. front_at (c.bodies + j) v (front_trans (inside_block_front (length st.found) (scopes_of bs) found) stay) (subst (λ (n : ℕ). slice_get found (n + j) ≡ Some v) st.bodies (at_back st.found new j v q));
+            patterns = none_more (length s.0.patterns) c.patterns (ap (λ l. length l) kept.patterns ∙ st.patterns);
+            gathered = none_more s.0.uses c.uses (kept.uses ∙ st.gathered);
+          }) s.2 in
           record {
             state = record {
               before = u.0;
@@ -241,4 +242,3 @@ module _ (o : Made) where
             pooled = λ p z. z;
             facts = λ p. out.facts p;
           }
-

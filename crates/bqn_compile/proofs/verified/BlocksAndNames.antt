@@ -1,6 +1,5 @@
 -- The blocks and names of a code are few.
-use Rattle.std.proofs.Common.{◌≡◌, ◌≤◌, suc, ◌+◌, List, length, Result, Ok, Err, refl, subst, arith}
-use Rattle.bqn_base.specs.declared.refusal.Refusal.{Refusal}
+use Rattle.std.proofs.Common.{◌≡◌, ◌≤◌, suc, ◌+◌, List, length, Ok, subst, arith}
 use Rattle.bqn_syntax.specs.declared.token.Token.{Token}
 use Rattle.bqn_syntax.specs.Plain.{Stmts}
 use Rattle.bqn_syntax.specs.Spells.{Spells}

@@ -1,5 +1,5 @@
 -- The bodies of translated code are verified.
-use Rattle.std.proofs.Common.{◌≡◌, ℕ, true, false, slice_get, subst, IsTrue, List}
+use Rattle.std.proofs.Common.{◌≡◌, ℕ, true, false, slice_get, IsTrue, List}
 use Rattle.std.specs.List.{list_all}
 use Rattle.bqn_syntax.specs.declared.tree.Class.{Class}
 use Rattle.bqn_syntax.specs.Plain.{Stmts, BodyTree, body}

@@ -122,14 +122,14 @@ module _ (c : Class) where
       let at_right_operand : Count = past at_own (in_token h.own) in
       let at_right : Count = past at_right_operand (in_operand h.right_operand) in
       then_all
-        (then_all
-          (then_all
-            (then_all
-              (argument_passes i.Left so.patterns h.left (left_argument_runs h.left h.right fits.sides pass.argument))
-              (operand_passes i.LeftOperand (seen_at uses at_operand.uses) h.left_operand (left_operand_runs (own_tag h.own.kind) h.left_operand h.right_operand fits.self pass.one pass.two)))
-            (own_passes h.own.kind (seen_at uses at_own.uses) h.left_operand h.right_operand fits.self pass.function pass.one pass.two))
-          (operand_passes i.RightOperand (seen_at uses at_right_operand.uses) h.right_operand (right_operand_runs (own_tag h.own.kind) h.left_operand h.right_operand fits.self pass.two)))
-        (argument_passes i.Right at_right.patterns h.right pass.argument)
+      (then_all
+      (then_all
+      (then_all
+      (argument_passes i.Left so.patterns h.left (left_argument_runs h.left h.right fits.sides pass.argument))
+      (operand_passes i.LeftOperand (seen_at uses at_operand.uses) h.left_operand (left_operand_runs (own_tag h.own.kind) h.left_operand h.right_operand fits.self pass.one pass.two)))
+      (own_passes h.own.kind (seen_at uses at_own.uses) h.left_operand h.right_operand fits.self pass.function pass.one pass.two))
+      (operand_passes i.RightOperand (seen_at uses at_right_operand.uses) h.right_operand (right_operand_runs (own_tag h.own.kind) h.left_operand h.right_operand fits.self pass.two)))
+      (argument_passes i.Right at_right.patterns h.right pass.argument)
 
   pub body_runs : (g : Setting) (own : BodyNames) (calls : Calls) (so : Count) (plain : ℕ) (x : BodyTree) → BodyFits c plain x → list_all (is_run_on c) (body_code g own calls so x).code ≡ true
   body_runs g own calls so plain (body h ss) fits =
@@ -163,4 +163,4 @@ no_predicate (and_stmts (Export q) ss) well h = no_predicate ss well.1 h
 pub program_goes_on : (g : Setting) (exports : Bool) (so : Count) (ss : Stmts) → WellStmts false ss → not (list_any may_fail (stmts_code g exports so ss)) ≡ true
 program_goes_on g exports so ss well =
     none_fails (stmts_code g exports so ss)
-      (stmts_pass goes_on goes_common g exports so ss (record { args = λ h. (refl, refl, refl); one = λ h. (refl, refl); one_self = λ h. refl; two = λ h. (refl, refl) }) (λ h. absurd (no_predicate ss well h))).all
+    (stmts_pass goes_on goes_common g exports so ss (record { args = λ h. (refl, refl, refl); one = λ h. (refl, refl); one_self = λ h. refl; two = λ h. (refl, refl) }) (λ h. absurd (no_predicate ss well h))).all

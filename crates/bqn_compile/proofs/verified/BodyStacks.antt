@@ -84,12 +84,12 @@ header_turns uses c (Some h) =
     let at_right_operand : Count = past at_own (in_token h.own) in
     let at_right : Count = past at_right_operand (in_operand h.right_operand) in
     turns_append
-      (turns_append
-        (turns_append
-          (turns_append (argument_turns i.Left c.patterns h.left (pushes i.Left refl refl refl)) (operand_turns i.LeftOperand (seen_at uses at_operand.uses) h.left_operand (pushes i.LeftOperand refl refl refl)))
-          (name_turns (own_instr h.own.kind) (seen_at uses at_own.uses) h.own.kind (own_turns h.own.kind)))
-        (operand_turns i.RightOperand (seen_at uses at_right_operand.uses) h.right_operand (pushes i.RightOperand refl refl refl)))
-      (argument_turns i.Right at_right.patterns h.right (pushes i.Right refl refl refl))
+    (turns_append
+    (turns_append
+    (turns_append (argument_turns i.Left c.patterns h.left (pushes i.Left refl refl refl)) (operand_turns i.LeftOperand (seen_at uses at_operand.uses) h.left_operand (pushes i.LeftOperand refl refl refl)))
+    (name_turns (own_instr h.own.kind) (seen_at uses at_own.uses) h.own.kind (own_turns h.own.kind)))
+    (operand_turns i.RightOperand (seen_at uses at_right_operand.uses) h.right_operand (pushes i.RightOperand refl refl refl)))
+    (argument_turns i.Right at_right.patterns h.right (pushes i.Right refl refl refl))
 
 -- ---- statements
 

@@ -119,22 +119,22 @@ module _ (test : Standing → Bool) where
   pass_append b k [] ys h l = pass_at b k (b + 0) (k + 0) ys (omega arith) (omega arith) l
   pass_append b k (x ∷ xs) ys h l =
       all_append test (of_block b k x x.bodies) (of_blocks (suc b) (k + length x.bodies) (xs ++ ys))
-        (all_front test (of_block b k x x.bodies) (of_blocks (suc b) (k + length x.bodies) xs) h)
-        (pass_append (suc b) (k + length x.bodies) xs ys
-          (all_back test (of_block b k x x.bodies) (of_blocks (suc b) (k + length x.bodies) xs) h)
-          (pass_at (suc b + length xs) ((k + length x.bodies) + bodies_in xs) (b + suc (length xs)) (k + (length x.bodies + bodies_in xs)) ys (omega arith) (omega arith) l))
+      (all_front test (of_block b k x x.bodies) (of_blocks (suc b) (k + length x.bodies) xs) h)
+      (pass_append (suc b) (k + length x.bodies) xs ys
+      (all_back test (of_block b k x x.bodies) (of_blocks (suc b) (k + length x.bodies) xs) h)
+      (pass_at (suc b + length xs) ((k + length x.bodies) + bodies_in xs) (b + suc (length xs)) (k + (length x.bodies + bodies_in xs)) ys (omega arith) (omega arith) l))
 
   pass_both : (c d : Count) (xs ys : List Block) → Counts d xs → Pass c.blocks c.bodies xs → Pass (c.blocks + d.blocks) (c.bodies + d.bodies) ys → Pass c.blocks c.bodies (xs ++ ys)
   pass_both c d xs ys many h k =
       pass_append c.blocks c.bodies xs ys h
-        (pass_at (c.blocks + length xs) (c.bodies + bodies_in xs) (c.blocks + d.blocks) (c.bodies + d.bodies) ys (omega (arith, many.blocks)) (omega (arith, many.bodies)) k)
+      (pass_at (c.blocks + length xs) (c.bodies + bodies_in xs) (c.blocks + d.blocks) (c.bodies + d.bodies) ys (omega (arith, many.blocks)) (omega (arith, many.bodies)) k)
 
   pass_behind : (c d : Count) (xs : List Block) → NoBlocks d → Pass (c.blocks + d.blocks) (c.bodies + d.bodies) xs → Pass c.blocks c.bodies xs
   pass_behind c d xs few h = pass_at c.blocks c.bodies (c.blocks + d.blocks) (c.bodies + d.bodies) xs (omega (arith, few.blocks)) (omega (arith, few.bodies)) h
 
 module _ (Holds : Class → (block inside number plain before : ℕ) → Count → BodyTree → Type 0) (test : Standing → Bool) (g : Setting) (names : List BodyNames)
     (passes : (kind : Class) (b n k plain before : ℕ) (bodies : List Body) (c : Count) (x : BodyTree) → Holds kind b n k plain before c x →
-        test (record { number = k; block_number = b; block = record { class = kind; parent = n; bodies = bodies }; body = body_code g (names_in (slice_get names k)) (calls_of plain before x) c x }) ≡ true) where
+    test (record { number = k; block_number = b; block = record { class = kind; parent = n; bodies = bodies }; body = body_code g (names_in (slice_get names k)) (calls_of plain before x) c x }) ≡ true) where
   bodies_of_pass : (kind : Class) (b n plain before k : ℕ) (c : Count) (bodies : List Body) (bs : Bodies) → EveryBodyOf Holds kind b n plain before k c bs →
       list_all test (of_block b k (record { class = kind; parent = n; bodies = bodies }) (bodies_code g names plain before k c bs)) ≡ true
   bodies_of_pass kind b n plain before k c bodies no_bodies h = refl
@@ -162,8 +162,8 @@ module _ (Holds : Class → (block inside number plain before : ℕ) → Count �
         let bodies : List Body = bodies_code g names (plain_in bs) 0 c.bodies at bs in
         let inner : List Block = bodies_blocks g names c.bodies bs at in
         all_append test (of_block c.blocks c.bodies (record { class = kind; parent = n; bodies = bodies }) bodies) (of_blocks (suc c.blocks) (c.bodies + length bodies) inner)
-          (bodies_of_pass kind c.blocks n (plain_in bs) 0 c.bodies at bodies bs h.0)
-          (pass_at test (suc c.blocks) (c.bodies + length bodies) (c.blocks + 1) (c.bodies + how_many bs) inner (omega arith) (omega (arith, many_bodies g names (plain_in bs) 0 c.bodies at bs)) (bodies_pass c.bodies bs at h.1))
+        (bodies_of_pass kind c.blocks n (plain_in bs) 0 c.bodies at bodies bs h.0)
+        (pass_at test (suc c.blocks) (c.bodies + length bodies) (c.blocks + 1) (c.bodies + how_many bs) inner (omega arith) (omega (arith, many_bodies g names (plain_in bs) 0 c.bodies at bs)) (bodies_pass c.bodies bs at h.1))
 
     maybe_pass : (n : ℕ) (x : MaybePart) (c : Count) → EveryInMaybe Holds n x c → Pass test c.blocks c.bodies (maybe_blocks g names n x c)
     maybe_pass n none c h = refl
@@ -224,12 +224,12 @@ both_calls before false = refl
 
 pub every-body : (Holds : Class → (block inside number plain before : ℕ) → Count → BodyTree → Type 0) (test : Standing → Bool) (r : Resolution) (pools : Gathered) (ss : Stmts) →
     ((kind : Class) (b n k plain before : ℕ) (bodies : List Body) (c : Count) (x : BodyTree) → Holds kind b n k plain before c x →
-        test (record { number = k; block_number = b; block = record { class = kind; parent = n; bodies = bodies }; body = body_code (setting r.uses pools) (names_in (slice_get r.bodies k)) (calls_of plain before x) c x }) ≡ true) →
+    test (record { number = k; block_number = b; block = record { class = kind; parent = n; bodies = bodies }; body = body_code (setting r.uses pools) (names_in (slice_get r.bodies k)) (calls_of plain before x) c x }) ≡ true) →
     EveryInProgram Holds ss → every_body test (translation r pools ss) ≡ true
 every-body Holds test r pools ss h every =
     let g : Setting = setting r.uses pools in
     let the : Block = program g r.bodies ss in
     let at : Calls → Standing = λ calls. record { number = 0; block_number = 0; block = the; body = body_code g (names_in (slice_get r.bodies 0)) calls at_start (body None ss) } in
     both_true (test (at Both)) (list_all test (of_blocks 1 1 (stmts_blocks g r.bodies 0 ss at_start)))
-      (subst (λ (calls : Calls). test (at calls) ≡ true) (both_calls 0 (has_predicate ss)) (h class.Immediate 0 0 0 1 0 the.bodies at_start (body None ss) every.0))
-      (stmts_pass Holds test g r.bodies h 0 ss at_start every.1)
+    (subst (λ (calls : Calls). test (at calls) ≡ true) (both_calls 0 (has_predicate ss)) (h class.Immediate 0 0 0 1 0 the.bodies at_start (body None ss) every.0))
+    (stmts_pass Holds test g r.bodies h 0 ss at_start every.1)

@@ -95,9 +95,8 @@ module _ (pool : List (List ℕ)) where
       let here : slice_get pool (name_number pool e.0) ≡ Some e.0 = numbered e.0 (left_true _ _ p) in
       let others : list_all (λ (e : List ℕ × ℕ). has pool e.0) es ≡ true = right_true (has pool e.0) _ p in
       both_true _ _
-        (ap (λ (x : Option (List ℕ)). not (list_any (λ (other : ℕ × ℕ). same_spelling x (slice_get pool other.0)) (exports_code pool es))) here ∙ ap not (any_same e.0 es others d.0))
-        (numbers_differ es others d.1)
+      (ap (λ (x : Option (List ℕ)). not (list_any (λ (other : ℕ × ℕ). same_spelling x (slice_get pool other.0)) (exports_code pool es))) here ∙ ap not (any_same e.0 es others d.0))
+      (numbers_differ es others d.1)
 
   pub slots_below : (n : ℕ) (es : List (List ℕ × ℕ)) → list_all (λ (e : List ℕ × ℕ). nat_lt e.1 n) es ≡ true → list_all (λ (e : ℕ × ℕ). nat_lt e.1 n) (exports_code pool es) ≡ true
   slots_below n es h = list_all-map (λ (e : ℕ × ℕ). nat_lt e.1 n) (λ (e : List ℕ × ℕ). (name_number pool e.0, e.1)) es ∙ h
-

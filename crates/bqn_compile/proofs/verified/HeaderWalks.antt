@@ -97,8 +97,8 @@ module _ (o : Made) where
   name_argument h push p (kind.Special s r) t e a = because o (λ c f. no_passes o) (judged_walk o h done (mention.Special t) tt (λ g g' q. kept_same g g' q) (λ g g' q. tt))
   name_argument h push p (kind.Word name r) t e a =
       because o (λ c f. matched h push c p f)
-        (subst (λ (k : Kind). Walk o h (pattern the_most (uses o) Defines (Name t)) (λ ms. leaf_mention Defines k t ms) (past one_pattern (in_kind k)) (IsNamed o h)) e
-          (pattern_walk o h Defines tt true (Name t) (ap is_word e)))
+      (subst (λ (k : Kind). Walk o h (pattern the_most (uses o) Defines (Name t)) (λ ms. leaf_mention Defines k t ms) (past one_pattern (in_kind k)) (IsNamed o h)) e
+      (pattern_walk o h Defines tt true (Name t) (ap is_word e)))
   name_argument h push p _ t e a = elim a [ ]
 
   some_argument : (h : Here o) (push : Instr) → Pushes h push → (q : Pattern) → ArgumentAsked q → Walk o h (argument the_most (uses o) (Some q)) (λ ms. argument_mentions (Some q) ms) (in_argument (Some q)) (λ c. Passes o h.number (argument_code push c.patterns (Some q)))
@@ -131,10 +131,10 @@ module _ (o : Made) where
   header_walk h None w = because o (λ c f. no_passes o) (skip o {h = h})
   header_walk h (Some x) w =
       because o (λ c f. append_passes o (append_passes o (append_passes o (append_passes o f.0 f.1.0) f.1.1.0) f.1.1.1.0) f.1.1.1.1)
-        (both o (argument_walk h i.Left (record { all = λ a b e. refl }) is_left left_special x.left w.left)
-          (both o (operand_walk h i.LeftOperand (record { all = λ a b e. refl }) x.left_operand)
-            (both o (because o (λ c f. name_passes h (own_instr x.own.kind) (own_pushes h x.own.kind) x.own.kind c f) (token_walk o h Defines tt x.own))
-              (both o (operand_walk h i.RightOperand (record { all = λ a b e. refl }) x.right_operand) (argument_walk h i.Right (record { all = λ a b e. refl }) is_right right_special x.right w.right)))))
+      (both o (argument_walk h i.Left (record { all = λ a b e. refl }) is_left left_special x.left w.left)
+      (both o (operand_walk h i.LeftOperand (record { all = λ a b e. refl }) x.left_operand)
+      (both o (because o (λ c f. name_passes h (own_instr x.own.kind) (own_pushes h x.own.kind) x.own.kind c f) (token_walk o h Defines tt x.own))
+      (both o (operand_walk h i.RightOperand (record { all = λ a b e. refl }) x.right_operand) (argument_walk h i.Right (record { all = λ a b e. refl }) is_right right_special x.right w.right)))))
 
   -- ---- targets and fields
 
@@ -142,7 +142,7 @@ module _ (o : Made) where
   targets_walk h r [] w = because o (λ c f. no_passes o) (skip o {h = h})
   targets_walk h r (t ∷ ts) w =
       because o (λ c f. append_passes o f.1 (store_passes o t.1 h.number (seen_at (uses o) c.uses) (word_fits o h (by_arrow t.1) t.0.kind c (name_word o r t.0.kind w.0) f.0)))
-        (both o (token_walk o h (by_arrow t.1) (is_use o (by_arrow t.1) (is_store o t.1)) t.0) (targets_walk h r ts w.1))
+      (both o (token_walk o h (by_arrow t.1) (is_use o (by_arrow t.1) (is_store o t.1)) t.0) (targets_walk h r ts w.1))
 
   pub fields_walk : (h : Here o) (ts : List Token) → Walk o h (fields ts) (λ ms. ms) nothing (λ c. Unit {0})
   fields_walk h ts = unmentioned o {h = h} (fields ts) (fields_kept ts)
@@ -181,4 +181,3 @@ module _ (o : Made) where
   leaf_passes h how (kind.Special s r) c f = special_passes h.number s
   leaf_passes h how (kind.System z r) c f = system_passes h.number _
   leaf_passes h how _ c f = record { all = λ a b e. refl }
-

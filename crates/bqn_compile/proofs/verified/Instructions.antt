@@ -156,16 +156,16 @@ module _ (test : Instr → Bool) (common : (x : Instr) → is_common x ≡ true 
       expr_passes c (Value none (and_steps (Modify t d) ss)) h =
           let k : SeenPass test (seen.in_steps (and_steps (Modify t d) ss)) = pass_right test (seen.in_maybe none) (seen.in_steps (and_steps (Modify t d) ss)) h in
           and_then (load _) refl
-            (then_all (derived_passes _ d (pass_left test (seen.in_derived d) (seen.in_steps ss) k))
-              (and_then i.Call1 refl (and_then (store arrow.Change _) refl (steps_pass c ss (pass_right test (seen.in_derived d) (seen.in_steps ss) k)))))
+          (then_all (derived_passes _ d (pass_left test (seen.in_derived d) (seen.in_steps ss) k))
+          (and_then i.Call1 refl (and_then (store arrow.Change _) refl (steps_pass c ss (pass_right test (seen.in_derived d) (seen.in_steps ss) k)))))
       expr_passes c (Value none (and_steps (Apply d left) ss)) h = and_then i.Nothing refl (steps_pass c (and_steps (Apply d left) ss) (pass_right test (seen.in_maybe none) (seen.in_steps (and_steps (Apply d left) ss)) h))
       expr_passes c (Value none (and_steps (Assign q a) ss)) h = and_then i.Nothing refl (steps_pass c (and_steps (Assign q a) ss) (pass_right test (seen.in_maybe none) (seen.in_steps (and_steps (Assign q a) ss)) h))
       expr_passes c (Value none no_steps) h = one i.Nothing refl
       expr_passes c (Value (some x) ss) h = then_all (part_passes _ x (pass_left test (seen.in_part x) (seen.in_steps ss) h)) (steps_pass c ss (pass_right test (seen.in_part x) (seen.in_steps ss) h))
       expr_passes c (Train targets ds) h =
           then_all
-            (then_all (deriveds_pass (past c (in_targets targets)) ds h) (atop_passes (parts_read ds)))
-            (targets_pass g c targets)
+          (then_all (deriveds_pass (past c (in_targets targets)) ds h) (atop_passes (parts_read ds)))
+          (targets_pass g c targets)
       expr_passes c (Modifier targets x) h = then_all (part_passes (past c (in_targets targets)) x h) (targets_pass g c targets)
 
       part_passes : (c : Count) (x : Part) → SeenPass test (seen.in_part x) → Passes test (part_code g c x)
@@ -186,16 +186,16 @@ module _ (test : Instr → Bool) (common : (x : Instr) → is_common x ≡ true 
       step_passes c (Apply d none) h = then_all (derived_passes c d (pass_left test (seen.in_derived d) (seen.in_maybe none) h)) (one i.Call1 refl)
       step_passes c (Apply d (some w)) h =
           then_all
-            (then_all (derived_passes _ d (pass_left test (seen.in_derived d) (seen.in_part w) h)) (part_passes c w (pass_right test (seen.in_derived d) (seen.in_part w) h)))
-            (one i.Call2 refl)
+          (then_all (derived_passes _ d (pass_left test (seen.in_derived d) (seen.in_part w) h)) (part_passes c w (pass_right test (seen.in_derived d) (seen.in_part w) h)))
+          (one i.Call2 refl)
       step_passes c (Assign q a) h = one (target_instr g c q a) (target_common g c q a)
       step_passes c (Modify t d) h = then_all (derived_passes _ d h) (and_then (load _) refl (and_then i.Call2 refl (one (store arrow.Change _) refl)))
 
       derived_passes : (c : Count) (d : Derived) → SeenPass test (seen.in_derived d) → Passes test (derived_code g c d)
       derived_passes c (derived x us) h =
           then_all
-            (then_all (uses_pass _ us (pass_right test (seen.in_part x) (seen.in_uses us) h)) (part_passes c x (pass_left test (seen.in_part x) (seen.in_uses us) h)))
-            (derives_pass us)
+          (then_all (uses_pass _ us (pass_right test (seen.in_part x) (seen.in_uses us) h)) (part_passes c x (pass_left test (seen.in_part x) (seen.in_uses us) h)))
+          (derives_pass us)
 
       uses_pass : (c : Count) (us : Uses) → SeenPass test (seen.in_uses us) → Passes test (uses_code g c us)
       uses_pass c no_uses h = none_all
@@ -209,8 +209,8 @@ module _ (test : Instr → Bool) (common : (x : Instr) → is_common x ≡ true 
       deriveds_pass c no_deriveds h = none_all
       deriveds_pass c (and_deriveds d ds) h =
           then_all
-            (then_all (deriveds_pass _ ds (pass_right test (seen.in_derived d) (seen.in_deriveds ds) h)) (derived_passes c d (pass_left test (seen.in_derived d) (seen.in_deriveds ds) h)))
-            (fork_passes (parts_read ds))
+          (then_all (deriveds_pass _ ds (pass_right test (seen.in_derived d) (seen.in_deriveds ds) h)) (derived_passes c d (pass_left test (seen.in_derived d) (seen.in_deriveds ds) h)))
+          (fork_passes (parts_read ds))
 
       exprs_pass : (c : Count) (es : Exprs) → SeenPass test (seen.in_exprs es) → Passes test (exprs_code g c es)
       exprs_pass c no_exprs h = none_all
@@ -235,8 +235,8 @@ module _ (test : Instr → Bool) (common : (x : Instr) → is_common x ≡ true 
     stmts_pass exports c (and_stmts (Eval e) no_stmts) h check = then_all (expr_passes c e (pass_left test (seen.in_expr e) seen.nothing h)) (last_passes exports)
     stmts_pass exports c (and_stmts (Eval e) (and_stmts s ss)) h check =
         then_all (expr_passes c e (pass_left test (seen.in_expr e) (seen.in_stmts (and_stmts s ss)) h))
-          (and_then i.Pop refl (stmts_pass exports (past c (in_stmt (Eval e))) (and_stmts s ss) (pass_right test (seen.in_expr e) (seen.in_stmts (and_stmts s ss)) h) check))
+        (and_then i.Pop refl (stmts_pass exports (past c (in_stmt (Eval e))) (and_stmts s ss) (pass_right test (seen.in_expr e) (seen.in_stmts (and_stmts s ss)) h) check))
     stmts_pass exports c (and_stmts (Predicate e) ss) h check =
         then_all (expr_passes c e (pass_left test (seen.in_expr e) (seen.in_stmts ss) h))
-          (lone i.Check (check refl) (stmts_pass exports (past c (in_stmt (Predicate e))) ss (pass_right test (seen.in_expr e) (seen.in_stmts ss) h) (λ p. check refl)))
+        (lone i.Check (check refl) (stmts_pass exports (past c (in_stmt (Predicate e))) ss (pass_right test (seen.in_expr e) (seen.in_stmts ss) h) (λ p. check refl)))
     stmts_pass exports c (and_stmts (Export q) ss) h check = stmts_pass exports c ss (pass_right test seen.nothing (seen.in_stmts ss) h) check

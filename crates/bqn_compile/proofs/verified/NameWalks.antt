@@ -125,9 +125,11 @@ module _ (o : Made) where
   pools_judged (Inner bs) j g x p k z = elim j [ ]
 
   pub judged_walk : (h : Here o) (f : Gathers) (m : Mention) → IsJudged m → ((g g' : Gathered) → f g ≡ Ok g' → Kept g g') → ((g g' : Gathered) → f g ≡ Ok g' → IsExported m g') → Walk o h f (λ k. and_mentions m k) nothing (λ c. Unit {0})
-  judged_walk h f m j keeps exports = record { run = λ k c g g' st e.
-    let rest : Walked o h k k (past c nothing) g g' (Unit {0}) = (unmentioned o {h = h} f keeps).run k c g g' (peeled h m j k c g st) e in
-    record { state = rest.state; grows = rest.grows; pooled = λ p z. pools_judged m j g' (exports g g' e) p k z; facts = λ p. tt } }
+  judged_walk h f m j keeps exports = record {
+    run = λ k c g g' st e.
+        let rest : Walked o h k k (past c nothing) g g' (Unit {0}) = (unmentioned o {h = h} f keeps).run k c g g' (peeled h m j k c g st) e in
+        record { state = rest.state; grows = rest.grows; pooled = λ p z. pools_judged m j g' (exports g g' e) p k z; facts = λ p. tt };
+  }
 
   -- ---- tokens
 

@@ -166,9 +166,9 @@ module _ (o : Made) where
             grows = grown_trans x.grows more;
             pooled = λ z v. x.pooled (grown_trans more z) v;
             facts = λ z.
-              let at : slice_get g'.patterns (length s.0.patterns) ≡ Some p = subst (λ l. slice_get l (length s.0.patterns) ≡ Some p) (sym all) (at_end s.0.patterns p []) in
-              let place : length s.0.patterns ≡ c.patterns = none_between (length s.0.patterns) c.patterns (in_leaves q).patterns y.patterns (no_patterns_inside q) in
-              pattern_there h c p (subst (λ n. slice_get o.pools.patterns n ≡ Some p) place (front_at (length s.0.patterns) p z.patterns at))
+                let at : slice_get g'.patterns (length s.0.patterns) ≡ Some p = subst (λ l. slice_get l (length s.0.patterns) ≡ Some p) (sym all) (at_end s.0.patterns p []) in
+                let place : length s.0.patterns ≡ c.patterns = none_between (length s.0.patterns) c.patterns (in_leaves q).patterns y.patterns (no_patterns_inside q) in
+                pattern_there h c p (subst (λ n. slice_get o.pools.patterns n ≡ Some p) place (front_at (length s.0.patterns) p z.patterns at))
                 (subst (λ n. Stores h.number (pattern_code (uses o) s.0.constants s.0.names how n q)) (sym st.gathered) (x.facts (grown_trans more z) s.0.constants s.0.names));
           }
 

@@ -74,6 +74,7 @@ numbered_in b k block (x ∷ xs) rest h (suc j) s e = subst (λ n. Numbered b n 
   where
     same : (k j : ℕ) → suc k + j ≡ k + suc j
     same k j = omega arith
+
     moved : (k n i : ℕ) → k + suc n + i ≡ suc k + n + i
     moved k n i = omega arith
 
@@ -220,7 +221,7 @@ module _ (outer : List (List ℕ)) (ss : Stmts) (r : Resolution) (is_resolved : 
       list_all (λ (e : ℕ × ℕ). nat_lt e.1 (body_at kind b n k plain before bodies c x).body.slots) (body_at kind b n k plain before bodies c x).body.exports ≡ true
   good_exports kind b n k plain before bodies c (body h ss) good =
       subst (λ (z : Option BodyNames). list_all (λ (e : ℕ × ℕ). nat_lt e.1 (length (names_in z).slots)) (exports_code pools.names (names_in z).exports) ≡ true) (sym good.there)
-        (slots_below pools.names (length good.names.slots) good.names.exports (exported n k c (body h ss) good).below)
+      (slots_below pools.names (length good.names.slots) good.names.exports (exported n k c (body h ss) good).below)
 
   exports_there : is.exports_are_there code ≡ true
   exports_there = every-body (Holds o) (λ s. list_all (λ (e : ℕ × ℕ). nat_lt e.1 s.body.slots) s.body.exports) r pools ss good_exports all

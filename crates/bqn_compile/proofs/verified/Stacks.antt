@@ -178,8 +178,8 @@ module _ (g : Setting) where
     pub expr_turns : (c : Count) (e : Expr) → WellExpr e → Turns 0 1 (expr_code g c e)
     expr_turns c (Value none (and_steps (Modify t d) ss)) h =
         turns_append (load_turns _)
-          (turns_append (turns_above 1 1 2 refl refl (derived_turns _ d h.1.0.3))
-            (turns_append call1_turns (turns_append (store_turns arrow.Change _) (steps_turns c ss h.1.1))))
+        (turns_append (turns_above 1 1 2 refl refl (derived_turns _ d h.1.0.3))
+        (turns_append call1_turns (turns_append (store_turns arrow.Change _) (steps_turns c ss h.1.1))))
     expr_turns c (Value none (and_steps (Apply d left) ss)) h = turns_append (pushes i.Nothing refl refl refl) (steps_turns c (and_steps (Apply d left) ss) h.1)
     expr_turns c (Value none (and_steps (Assign q a) ss)) h = turns_append (pushes i.Nothing refl refl refl) (steps_turns c (and_steps (Assign q a) ss) h.1)
     expr_turns c (Value none no_steps) h = turns_append (pushes i.Nothing refl refl refl) (turns_none 1)

@@ -5,7 +5,7 @@ use Rattle.bqn_syntax.specs.declared.token.Token.{Token}
 use Rattle.bqn_syntax.specs.Plain.{Stmts}
 use Rattle.bqn_syntax.specs.Bodies.{Resolution}
 use Rattle.bqn_code.specs.declared.code.Code.{Code as CodeCode}
-use Rattle.bqn_code.specs.Plain.{Code, code_of}
+use Rattle.bqn_code.specs.Plain.{code_of}
 use Rattle.bqn_code.specs.Verified.{Verified}
 use Rattle.bqn_compile.specs.Gathering.{Gathered, the_most, gathered}
 use Rattle.bqn_compile.specs.declared.error.CompileError.{CompileError}

@@ -80,7 +80,7 @@ module _ (o : Made) where
   change_passes h t d c is w f p q =
       let at : Fits o Changes h.number (seen_at (uses o) c.uses) = word_fits o h Changes t.kind c w f in
       cons_passes o (load_passes o Changes h.number (seen_at (uses o) c.uses) at)
-        (append_passes o p (cons_passes o {x = i.Call1} (record { all = λ a b e. refl }) (cons_passes o (store_passes o arrow.Change h.number (seen_at (uses o) c.uses) at) q)))
+      (append_passes o p (cons_passes o {x = i.Call1} (record { all = λ a b e. refl }) (cons_passes o (store_passes o arrow.Change h.number (seen_at (uses o) c.uses) at) q)))
 
   modify_passes : (h : Here o) (t : Token) (d : Derived) (c : Count) → is_word t.kind ≡ true → TokenFits o h Changes t.kind c → Passes o h.number (derived_code (made o) (past c (in_token t)) d) →
       Passes o h.number (step_code (made o) c (Modify t d))
@@ -111,7 +111,7 @@ module _ (o : Made) where
     expr_walk h (Value none (and_steps (Assign q a) ss)) w = elim (w.0) [ ]
     expr_walk h (Value none (and_steps (Modify t d) ss)) w =
         because o (λ c f. (change_passes h t d (past c (in_steps ss)) _ (name_word o tag.Subject t.kind w.1.0.0) f.0.1.0 f.0.1.1.0 f.0.0.0, ((f.0.0.1, f.0.1.1.1), tt)))
-          (both o (both o (steps_walk h ss w.1.1) (both o (token_walk o h Changes tt t) (derived_walk h d w.1.0.3))) (skip o {h = h}))
+        (both o (both o (steps_walk h ss w.1.1) (both o (token_walk o h Changes tt t) (derived_walk h d w.1.0.3))) (skip o {h = h}))
     expr_walk h (Value (some x) ss) w = because o (λ c f. (append_passes o f.1.0 f.0.0, (f.0.1, f.1.1))) (both o (steps_walk h ss w.2) (part_walk h x w.1))
     expr_walk h (Train ts ds) w = because o (λ c f. (append_passes o (append_passes o f.1.0 (atop_passes o h.number (parts_read ds))) f.0, f.1.1)) (both o (targets_walk o h tag.Function ts w.0) (deriveds_walk h ds w.3))
     expr_walk h (Modifier ts x) w = because o (λ c f. (append_passes o f.1.0 f.0, f.1.1)) (both o (targets_walk o h (tag_of x) ts w.1) (part_walk h x w.2))
@@ -124,7 +124,7 @@ module _ (o : Made) where
     part_walk h (Braces b) w = block_walk h b w
     part_walk h (Field base names) w =
         subst (λ d. Walk o h (part the_most (uses o) (Field base names)) (λ ms. part_mentions base ms) d (PartFacts h (Field base names))) (past-nothing (in_part base))
-          (because o (λ c f. (append_passes o f.0.0 (fields_pass o h.number o.pools.names names), f.0.1)) (both o (part_walk h base w.2) (fields_walk o h names)))
+        (because o (λ c f. (append_passes o f.0.0 (fields_pass o h.number o.pools.names names), f.0.1)) (both o (part_walk h base w.2) (fields_walk o h names)))
     part_walk h (Strand ps) w = because o (λ c f. (append_passes o f.0 (record { all = λ a b e. refl }), f.1)) (parts_walk h ps w.1)
     part_walk h (Nothing place) w = because o (λ c f. (record { all = λ a b e. refl }, tt)) (skip o {h = h})
 
@@ -179,4 +179,3 @@ module _ (o : Made) where
 
     body_walk : (h : Here o) (x : BodyTree) → WellBody x → BodyWalk o h x
     body_walk h (body hd ss) w = because o (λ c f. (append_passes o f.0 (f.1.0 _), f.1.1)) (both o (header_walk o h hd w.0) (stmts_walk h true ss w.1))
-

@@ -222,15 +222,19 @@ module _ (o : Made) where
           }
 
   pub because : {h : Here} {f : Gathers} {m : Mentions → Mentions} {d : Count} {F F' : Count → Type 0} → ((c : Count) → F c → F' c) → Walk h f m d F → Walk h f m d F'
-  because {h = h} {f = f} {m = m} {d = d} {F = F} {F' = F'} go a = record { run = λ k c g g' st e.
-    let x : Walked h (m k) k (past c d) g g' (F c) = a.run k c g g' st e in
-    record { state = x.state; grows = x.grows; pooled = x.pooled; facts = λ p. go c (x.facts p) } }
+  because {h = h} {f = f} {m = m} {d = d} {F = F} {F' = F'} go a = record {
+    run = λ k c g g' st e.
+        let x : Walked h (m k) k (past c d) g g' (F c) = a.run k c g g' st e in
+        record { state = x.state; grows = x.grows; pooled = x.pooled; facts = λ p. go c (x.facts p) };
+  }
 
   -- nothing is mentioned, and names may be pooled
   pub unmentioned : {h : Here} (f : Gathers) → ((g g' : Gathered) → f g ≡ Ok g' → Kept g g') → Walk h f (λ k. k) nothing (λ c. Unit {0})
-  unmentioned {h = h} f keeps = record { run = λ k c g g' st e.
-    let q : Kept g g' = keeps g g' e in
-    record { state = subst (λ z. State h k z g') (sym (past-nothing c)) (record { before = st.before; resolves = st.resolves; uses = st.uses; found = st.found; numbers = st.numbers; bodies = st.bodies; some = st.some; patterns = ap (λ l. length l) q.patterns ∙ st.patterns; gathered = q.uses ∙ st.gathered; defined = st.defined }); grows = kept_grown q; pooled = λ p z. z; facts = λ p. tt } }
+  unmentioned {h = h} f keeps = record {
+    run = λ k c g g' st e.
+        let q : Kept g g' = keeps g g' e in
+        record { state = subst (λ z. State h k z g') (sym (past-nothing c)) (record { before = st.before; resolves = st.resolves; uses = st.uses; found = st.found; numbers = st.numbers; bodies = st.bodies; some = st.some; patterns = ap (λ l. length l) q.patterns ∙ st.patterns; gathered = q.uses ∙ st.gathered; defined = st.defined }); grows = kept_grown q; pooled = λ p z. z; facts = λ p. tt };
+  }
 
   pub skip : {h : Here} → Walk h done (λ k. k) nothing (λ c. Unit {0})
   skip = unmentioned done (λ g g' e. kept_same g g' e)

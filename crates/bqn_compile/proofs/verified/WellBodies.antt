@@ -24,9 +24,10 @@ Fitting kind b n k plain before c x = BodyFits kind plain x
 bodies_fit : (ms : List Marks) (kind : Class) (plain : ℕ) → ClassFacts ms kind → (waits kind ≡ false → plain ≤ 1) → (bs : Bodies) →
     ((test : Marks → Bool) → list_any test (marks_in bs) ≡ true → list_any test ms ≡ true) → WellBodies bs → (b n before k : ℕ) (c : Count) → EveryBodyOf Fitting kind b n plain before k c bs
 bodies_fit ms kind plain facts few no_bodies among well b n before k c = tt
-bodies_fit ms kind plain facts few (and_bodies x bs) among well b n before k c =
-    (body_fits ms kind plain facts few x (λ test h. among test (or_left (test (marks_of x)) (list_any test (marks_in bs)) h)) well.0,
-     bodies_fit ms kind plain facts few bs (λ test h. among test (or_right (test (marks_of x)) (list_any test (marks_in bs)) h)) well.1 b n (and_plain x before) (suc k) (past c (in_body x)))
+bodies_fit ms kind plain facts few (and_bodies x bs) among well b n before k c = (
+  body_fits ms kind plain facts few x (λ test h. among test (or_left (test (marks_of x)) (list_any test (marks_in bs)) h)) well.0,
+  bodies_fit ms kind plain facts few bs (λ test h. among test (or_right (test (marks_of x)) (list_any test (marks_in bs)) h)) well.1 b n (and_plain x before) (suc k) (past c (in_body x)),
+)
 
 block_fits : (kind : Class) (bs : Bodies) → WellBodies bs → ClassFacts (marks_in bs) kind → (b n k : ℕ) (c : Count) → EveryBodyOf Fitting kind b n (plain_in bs) 0 k c bs
 block_fits kind bs well facts b n k c = bodies_fit (marks_in bs) kind (plain_in bs) facts (λ h. few_plain 1 bs (facts.plain h)) bs (λ test h. h) well b n 0 k c
