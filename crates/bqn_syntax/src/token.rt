@@ -39,6 +39,7 @@ pub enum Kind {
 
 impl Kind {
     /// An identical kind.
+    #[inline(always)]
     pub fn copy(&self, alloc: Global) -> Result<Kind, Memory>
         ensures { IfOk result (λ kind. kind ≡ self.now) }
     {
@@ -107,6 +108,7 @@ pub struct Token {
 
 impl Token {
     /// An identical token.
+    #[inline(always)]
     pub fn copy(&self, alloc: Global) -> Result<Token, Memory>
         ensures { IfOk result (λ token. token ≡ self.now) }
     {
