@@ -274,7 +274,7 @@ pub fn step(
             walk,
         ),
         Sort::Stands => {
-            let leaf = Part::Leaf(token.copy()?);
+            let leaf = Part::Leaf(token.copy(alloc)?);
             take(index, Item::Standing(Element::Part(leaf)), walk)
         }
     }
