@@ -1,6 +1,5 @@
 -- Parts and targets are collected from right to left.
-use Rattle.std.proofs.Common.{◌≡◌, List, [], ◌∷◌, ◌++◌, map, reverse, Option, Some, Result, sym, ap, ◌∙◌, subst}
-use Rattle.std.specs.Prelude.{IfOk}
+use Rattle.std.proofs.Common.{◌≡◌, List, [], ◌∷◌, ◌++◌, map, reverse, Option, Some, sym, ap, ◌∙◌}
 use Rattle.std.specs.Option.{option_and_then}
 use Rattle.std.proofs.lemmas.List.{reverse-append}
 use Rattle.bqn_syntax.specs.declared.sort.Tag.{Tag}
@@ -11,8 +10,7 @@ use Rattle.bqn_syntax.specs.Expressions.{single, targets}
 use Rattle.bqn_syntax.specs.Plain.{and_deriveds, deriveds, derived_of}
 use Rattle.bqn_syntax.specs.Sorts.{named}
 use Rattle.bqn_syntax.specs.Units.{Unit', Arrow'}
-use Rattle.bqn_parse.specs.declared.targets.Aimed.{Aimed}
-use Rattle.bqn_parse.specs.Trains.{aimed_shown, parts_shown}
+use Rattle.bqn_parse.specs.Trains.{parts_shown}
 
 pub found-snoc : (found : List (Token × Arrow)) (target : Token × Arrow) → reverse (found ++ target ∷ []) ≡ target ∷ reverse found
 found-snoc found target = reverse-append found (target ∷ [])
@@ -23,12 +21,8 @@ parts_shown-snoc parts part = ap (λ (all : List Derived). deriveds (map derived
 pub ruleset train_laws = (found-snoc, parts_shown-snoc)
 
 -- a target before an arrow
-pub target-before : (r : Tag) (so more : List (Token × Arrow)) (t : Token) (a : Arrow) (u : Unit') (us all left : List Unit') → all ≡ u ∷ us → Some t ≡ option_and_then (named r) (single u) → more ≡ (t, a) ∷ so → left ≡ us → targets r so (Arrow' a ∷ all) ≡ targets r more left
-target-before r so more t a u us all left at_hand name found same =
+pub target-before : (r : Tag) (so more : List (Token × Arrow)) (t : Token) (a : Arrow) (u : Unit') (us all : List Unit') → all ≡ u ∷ us → Some t ≡ option_and_then (named r) (single u) → more ≡ (t, a) ∷ so → targets r so (Arrow' a ∷ all) ≡ targets r more us
+target-before r so more t a u us all at_hand name found =
     ap (λ (vs : List Unit'). targets r so (Arrow' a ∷ vs)) at_hand
     ∙ ap (λ (o : Option Token). option_and_then (λ x. targets r ((x, a) ∷ so) us) o) (sym name)
     ∙ ap (λ (ts : List (Token × Arrow)). targets r ts us) (sym found)
-    ∙ ap (λ (vs : List Unit'). targets r more vs) (sym same)
-
-pub aimed-same : {E : Type 0} (r : Tag) (so : List (Token × Arrow)) (us vs : List Unit') (result : Result Aimed E) → us ≡ vs → IfOk result (λ next. targets r so us ≡ aimed_shown r next) → IfOk result (λ next. targets r so vs ≡ aimed_shown r next)
-aimed-same r so us vs result e given = subst (λ (ws : List Unit'). IfOk result (λ next. targets r so ws ≡ aimed_shown r next)) e given

@@ -2,12 +2,13 @@
 use Rattle.std.specs.Prelude.{Bool, List, [], ◌∷◌, ◌++◌, map, Option, Some, None}
 use Rattle.std.specs.Option.{option_map}
 use Rattle.bqn_syntax.specs.Items as items
-use Rattle.bqn_syntax.specs.Plain.{Pattern, part_of}
+use Rattle.bqn_syntax.specs.Plain.{Pattern}
 use Rattle.bqn_parse.specs.declared.item.Element.{Element}
 use Rattle.bqn_parse.specs.declared.pattern.Joined.{Joined}
 use Rattle.bqn_parse.specs.declared.terms.Reader.{Reader}
 use Rattle.bqn_parse.specs.declared.terms.Reading.{Reading}
 use Rattle.bqn_parse.specs.declared.terms.Reading.TheVariants as reading
+use Rattle.bqn_parse.specs.Drafts.{draft_of}
 use Rattle.bqn_parse.specs.Fused.{Piece, piece}
 use Rattle.bqn_parse.specs.Grouping.{grouping_shown}
 use Rattle.bqn_parse.specs.Views.{element_of}
@@ -20,7 +21,7 @@ abbrev pub reading_of : List items.Element → Reading → items.Reading
 reading_of joined reading.Between = items.Between
 reading_of joined (reading.At x) = items.At joined (element_of x)
 reading_of joined reading.Joined = items.Joined joined
-reading_of joined (reading.Selected x) = items.Selected joined (part_of x)
+reading_of joined (reading.Selected x) = items.Selected joined (draft_of x)
 
 abbrev pub reader_of : Reader → Piece
 reader_of reader = piece (grouping_shown reader.grouping) (reading_of (elements_of reader.joined.items) reader.reading)

@@ -5,9 +5,10 @@ use Rattle.bqn_syntax.specs.declared.token.Token.{Token}
 use Rattle.bqn_syntax.specs.declared.tree.Tree.{Tree}
 use Rattle.bqn_syntax.specs.Items as items
 use Rattle.bqn_syntax.specs.Units as units
-use Rattle.bqn_syntax.specs.Plain.{part_of, pattern_of, derived_of, Stmts, tree_of}
+use Rattle.bqn_syntax.specs.Plain.{pattern_of, Stmts, tree_of}
 use Rattle.bqn_syntax.specs.Spells.{Spells}
 use Rattle.bqn_syntax.specs.Well.{Well}
+use Rattle.bqn_parse.specs.Drafts.{draft_of, function_of}
 use Rattle.bqn_parse.specs.declared.item.Element.{Element}
 use Rattle.bqn_parse.specs.declared.item.Element.TheVariants as element
 use Rattle.bqn_parse.specs.declared.item.Item.{Item}
@@ -18,7 +19,7 @@ use Rattle.bqn_parse.specs.declared.error.ParseError.{ParseError}
 use Rattle.bqn_parse.specs.declared.error.ParseError.TheVariants.{Refused, Memory}
 
 abbrev pub element_of : Element → items.Element
-element_of (element.Part x) = items.OfPart (part_of x)
+element_of (element.Part x) = items.OfPart (draft_of x)
 element_of (element.List q) = items.OfList (pattern_of q)
 
 abbrev pub item_of : Item → items.Item
@@ -32,10 +33,10 @@ abbrev pub items_of : List Item → List items.Item
 items_of all = map item_of all
 
 abbrev pub unit_shown : CodeUnit → units.Unit'
-unit_shown (unit.Subject x) = units.Subject (part_of x)
-unit_shown (unit.Function f) = units.Function (derived_of f)
-unit_shown (unit.Absent x) = units.Absent (part_of x)
-unit_shown (unit.Alone x) = units.Alone (part_of x)
+unit_shown (unit.Subject x) = units.Subject (draft_of x)
+unit_shown (unit.Function f) = units.Function (function_of f)
+unit_shown (unit.Absent x) = units.Absent (draft_of x)
+unit_shown (unit.Alone x) = units.Alone (draft_of x)
 unit_shown (unit.Arrow a) = units.Arrow' a
 unit_shown (unit.Aim q) = units.Aim (pattern_of q)
 

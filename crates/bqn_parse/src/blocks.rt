@@ -7,14 +7,14 @@ ghost use Rattle.bqn_parse.specs.Marking.{brief, brief_header};
 ghost use Rattle.bqn_parse.specs.Views.{element_of};
 ghost use Rattle.bqn_parse.specs.Walking.{Made};
 
+use crate::draft::{Draft, boxed};
 use crate::ends::shrunk;
 use crate::error::ParseError;
 use crate::item::Element;
 use crate::marks::{has_predicate, in_stmts, since_predicate};
 use bqn_base::{Memory, Place, Refusal, Row};
 use bqn_headers::{BodyMarks, block_class};
-use bqn_syntax::{BlockTree, BodyTree, Class, Header, Part, Pattern};
-use sqlite_items::Boxed;
+use bqn_syntax::{BlockTree, BodyTree, Class, Header, Pattern};
 use std::alloc::Global;
 
 /// A header that tells as much of the class of its block: its own name, and whether it has an
@@ -85,7 +85,7 @@ fn class_of(alloc: Global, all: &[BodyTree]) -> Result<Option<Class>, ParseError
 ///
 /// `BadBlock` where the bodies break a rule, and want of memory.
 #[tactic(auto, using(bqn_syntax::specs::Levels::levels))]
-pub fn block(alloc: Global, place: Place, all: Vec<BodyTree>) -> Result<Element, ParseError>
+pub fn block<'t>(alloc: Global, place: Place, all: Vec<BodyTree>) -> Result<Element<'t>, ParseError>
     ensures { Made (parsing.block_part place (bodies (map body_of all.items)) (classes.class_of (classes.marks_in (bodies (map body_of all.items))))) element_of result }
 {
     match class_of(alloc, &all)? {
@@ -96,7 +96,7 @@ pub fn block(alloc: Global, place: Place, all: Vec<BodyTree>) -> Result<Element,
                 class,
                 bodies: Row::new(shrunk(all)),
             };
-            Ok(Element::Part(Part::Block(Boxed::new(alloc, block)?)))
+            Ok(Element::Part(Draft::Block(boxed(alloc, block)?)))
         }
     }
 }

@@ -8,14 +8,14 @@ ghost use Rattle.bqn_parse.specs.Views.{element_of};
 ghost use Rattle.bqn_parse.specs.Walking.{level_shown, walk_shown, Made, Moves};
 
 use crate::blocks::block;
+use crate::draft::{Draft, boxed};
 use crate::ends::shrunk;
 use crate::error::ParseError;
 use crate::item::{Element, Item};
 use crate::judge::end;
 use crate::level::{Level, Walk};
 use bqn_base::{Place, Refusal, Row};
-use bqn_syntax::{Bracket, Expr, Inside, Part, Pattern, Token};
-use sqlite_items::Boxed;
+use bqn_syntax::{Bracket, Expr, Inside, Pattern, Token};
 use std::alloc::Global;
 use std::mem;
 
@@ -36,7 +36,7 @@ fn closes(bracket: Bracket, inside: Inside) -> bool
 
 /// Parentheses that hold these pieces.
 #[tactic(auto, using(bqn_syntax::specs::Levels::levels, crate::proofs::Closing::parens_laws))]
-fn parens(alloc: Global, place: Place, mut pieces: Vec<Expr>) -> Result<Element, ParseError>
+fn parens<'t>(alloc: Global, place: Place, mut pieces: Vec<Expr>) -> Result<Element<'t>, ParseError>
     ensures { Made (parsing.parens_part place (map expr_of pieces.items)) element_of result }
 {
     let Some(piece) = pieces.pop() else {
@@ -45,22 +45,23 @@ fn parens(alloc: Global, place: Place, mut pieces: Vec<Expr>) -> Result<Element,
     if !pieces.is_empty() {
         return Err(ParseError::Refused(Refusal::Grammar(place)));
     }
-    Ok(Element::Part(Part::Paren(Boxed::new(alloc, piece)?)))
+    Ok(Element::Part(Draft::Paren(boxed(alloc, piece)?)))
 }
 
 /// The array whose cells are these pieces; it has one at least.
 #[tactic(auto, using(bqn_syntax::specs::Levels::levels, crate::proofs::Closing::merge_laws))]
-fn merge(place: Place, pieces: Vec<Expr>) -> Result<Element, ParseError>
+fn merge<'t>(alloc: Global, place: Place, pieces: Vec<Expr>) -> Result<Element<'t>, ParseError>
     ensures { Made (parsing.merge_part place (map expr_of pieces.items)) element_of result }
 {
     if pieces.is_empty() {
         return Err(ParseError::Refused(Refusal::Grammar(place)));
     }
-    Ok(Element::Part(Part::Merge(Row::new(shrunk(pieces)))))
+    let all = boxed(alloc, Row::new(shrunk(pieces)))?;
+    Ok(Element::Part(Draft::Merge(all)))
 }
 
 /// The block that a level is; its last body ends.
-fn whole_block(alloc: Global, level: &mut Level) -> Result<Element, ParseError>
+fn whole_block<'t>(alloc: Global, level: &mut Level<'t>) -> Result<Element<'t>, ParseError>
     ensures { (tokens : List Token) (place : Place) → Made (parsing.whole inside.Block place (level_shown tokens level.old)) element_of result }
 {
     level.end_body(alloc)?;
@@ -70,7 +71,7 @@ fn whole_block(alloc: Global, level: &mut Level) -> Result<Element, ParseError>
 
 /// What a level is as one element, where it closes at this place.
 #[tactic(auto, using(bqn_syntax::specs::Levels::levels))]
-fn whole(alloc: Global, place: Place, level: &mut Level) -> Result<Element, ParseError>
+fn whole<'t>(alloc: Global, place: Place, level: &mut Level<'t>) -> Result<Element<'t>, ParseError>
     ensures { (tokens : List Token) → Made (parsing.whole level.old.inside place (level_shown tokens level.old)) element_of result }
 {
     match level.inside {
@@ -80,15 +81,17 @@ fn whole(alloc: Global, place: Place, level: &mut Level) -> Result<Element, Pars
         }
         Inside::List => {
             let pieces = mem::replace(&mut level.expressions, Vec::new(alloc));
-            Ok(Element::Part(Part::List(Row::new(shrunk(pieces)))))
+            let all = boxed(alloc, Row::new(shrunk(pieces)))?;
+            Ok(Element::Part(Draft::List(all)))
         }
         Inside::Merge => {
             let pieces = mem::replace(&mut level.expressions, Vec::new(alloc));
-            merge(place, pieces)
+            merge(alloc, place, pieces)
         }
         Inside::Pattern | Inside::HeaderPattern => {
             let pieces = mem::replace(&mut level.targets, Vec::new(alloc));
-            Ok(Element::List(Pattern::List(Row::new(shrunk(pieces)))))
+            let all = boxed(alloc, Pattern::List(Row::new(shrunk(pieces))))?;
+            Ok(Element::List(all))
         }
         Inside::Block => whole_block(alloc, level),
         Inside::Program => Err(ParseError::Refused(Refusal::Bracket(place))),
@@ -96,12 +99,12 @@ fn whole(alloc: Global, place: Place, level: &mut Level) -> Result<Element, Pars
 }
 
 /// The last piece of a level ends, and the level closes at the same place.
-fn close_level(
+fn close_level<'t>(
     alloc: Global,
     tokens: &[Token],
     place: Place,
-    level: &mut Level,
-) -> Result<Element, ParseError>
+    level: &mut Level<'t>,
+) -> Result<Element<'t>, ParseError>
     ensures { Made (parsing.whole_of place (parsing.ended place (level_shown tokens.now level.old))) element_of result }
 {
     end(alloc, tokens, place, level)?;
@@ -110,8 +113,8 @@ fn close_level(
 
 /// An element stands in the level around, which is now the innermost one.
 #[tactic(auto, using(crate::proofs::Closing::hand_laws))]
-fn hand(place: Place, walk: &mut Walk, element: Element) -> Result<(), ParseError>
-    ensures { (tokens : List Token) → Moves (parsing.handed place (Ok (element_of element)) (map (level_shown tokens) (reverse walk.old.outer.items))) (walk_shown tokens walk.new) result }
+fn hand<'t>(place: Place, walk: &mut Walk<'t>, element: Element<'t>) -> Result<(), ParseError>
+    ensures { (tokens : List Token) → Moves (parsing.handed place (Ok (element_of element.entry)) (map (level_shown tokens) (reverse walk.old.outer.items))) (walk_shown tokens walk.new) result }
 {
     let Some(around) = walk.outer.pop() else {
         return Err(ParseError::Refused(Refusal::Bracket(place)));
@@ -122,12 +125,12 @@ fn hand(place: Place, walk: &mut Walk, element: Element) -> Result<(), ParseErro
 }
 
 /// A bracket closes.
-pub fn close(
+pub fn close<'t>(
     alloc: Global,
     tokens: &[Token],
     place: Place,
     bracket: Bracket,
-    walk: &mut Walk,
+    walk: &mut Walk<'t>,
 ) -> Result<(), ParseError>
     ensures { Moves (parsing.closed (parsing.closes bracket walk.old.level.inside) place (walk_shown tokens.now walk.old)) (walk_shown tokens.now walk.new) result }
 {

@@ -2,83 +2,93 @@ ghost use Rattle.std.specs.Prelude.{◌≡◌, IfOk, ◌∷◌};
 ghost use Rattle.std.specs.Option.{option_map};
 ghost use Rattle.bqn_syntax.specs.Expressions as expressions;
 ghost use Rattle.bqn_syntax.specs.Expressions.{steps_of};
-ghost use Rattle.bqn_syntax.specs.Plain.{Eval, Export, derived_of, expr_of, maybe_part, part_of, some, stmt_of};
-ghost use Rattle.bqn_syntax.specs.Units.{Absent, Alone, Arrow', Function};
+ghost use Rattle.bqn_syntax.specs.Plain as plain;
+ghost use Rattle.bqn_syntax.specs.Plain.{Eval, Export, expr_of, some, stmt_of};
+ghost use Rattle.bqn_syntax.specs.Units as units;
 ghost use Rattle.bqn_syntax.specs.declared.tree.Arrow.TheVariants as arrows;
-ghost use Rattle.bqn_parse.specs.Leftward.{is_end, is_export, next_shown, reading_shown};
+ghost use Rattle.bqn_parse.specs.Drafts.{draft_of, function_of};
+ghost use Rattle.bqn_parse.specs.Leftward.{is_end, is_export, next_shown};
 ghost use Rattle.bqn_parse.specs.Views.{backward, unit_shown};
 
+use crate::act::maybe_part;
+use crate::draft::{Draft, Function, part, tag_of_draft};
 use crate::named::exported;
-use crate::reading::{Reading, read};
+use crate::reading::take;
 use crate::steps::{Next, called, change, next_step, steps};
-use crate::tags::tag_of;
 use crate::targets::targets;
 use crate::train::train;
 use crate::unit::Unit;
-use bqn_base::{Memory, Row};
-use bqn_syntax::{Arrow, Derived, Expr, Part, Stmt};
+use bqn_base::Memory;
+use bqn_syntax::{Arrow, Expr, Stmt};
 use std::alloc::Global;
 
 /// The value with this last part, or none.
 #[tactic(auto, using(bqn_syntax::specs::Levels::levels))]
-fn value(
+fn value<'t>(
     alloc: Global,
-    last: Option<Part>,
-    first: Next,
-    left: &mut Reading,
+    last: Option<Draft<'t>>,
+    first: Next<'t>,
+    left: &mut Vec<Unit<'t>>,
 ) -> Result<Option<Expr>, Memory>
-    ensures { IfOk result (λ e. option_map expr_of e ≡ expressions.value (maybe_part (option_map part_of last)) (next_shown first (reading_shown left.old))) }
+    ensures { IfOk result (λ e. option_map expr_of e ≡ expressions.value (plain.maybe_part (option_map draft_of last.entry)) (next_shown first.entry (backward left.old.items))) }
 {
     match steps(alloc, first, left)? {
         None => Ok(None),
-        Some(steps) => Ok(Some(Expr::Value { last, steps })),
+        Some(steps) => Ok(Some(Expr::Value {
+            last: maybe_part(alloc, last)?,
+            steps,
+        })),
     }
 }
 
 /// The value with this last part, by what stands left of it, or none.
-fn ends_in_part(alloc: Global, last: Part, left: Reading) -> Result<Option<Expr>, Memory>
-    ensures { IfOk result (λ e. option_map expr_of e ≡ expressions.value (some (part_of last)) (steps_of (reading_shown left))) }
+fn ends_in_part<'t>(
+    alloc: Global,
+    last: Draft<'t>,
+    left: &mut Vec<Unit<'t>>,
+) -> Result<Option<Expr>, Memory>
+    ensures { IfOk result (λ e. option_map expr_of e ≡ expressions.value (some (draft_of last.entry)) (steps_of (backward left.old.items))) }
 {
-    let mut left = left;
-    let first = next_step(&mut left);
-    value(alloc, Some(last), first, &mut left)
+    let first = next_step(left)?;
+    value(alloc, Some(last), first, left)
 }
 
 /// The value with this last part, to which a function is applied, or none.
-fn ends_in_call(
+fn ends_in_call<'t>(
     alloc: Global,
-    last: Part,
-    function: Derived,
-    left: Reading,
+    last: Draft<'t>,
+    function: Function<'t>,
+    left: &mut Vec<Unit<'t>>,
 ) -> Result<Option<Expr>, Memory>
-    ensures { IfOk result (λ e. option_map expr_of e ≡ expressions.value (some (part_of last)) (steps_of (Function (derived_of function) ∷ reading_shown left))) }
+    ensures { IfOk result (λ e. option_map expr_of e ≡ expressions.value (some (draft_of last.entry)) (steps_of (units.Function (function_of function.entry) ∷ backward left.old.items))) }
 {
-    let mut left = left;
-    let first = called(function, &mut left);
-    value(alloc, Some(last), first, &mut left)
+    let first = called(function, left)?;
+    value(alloc, Some(last), first, left)
 }
 
 /// The value whose last step changes a name by a function, or none.
 #[tactic(auto, using(crate::proofs::Expressions::expression_laws))]
-fn ends_in_change_by(
+fn ends_in_change_by<'t>(
     alloc: Global,
-    function: Derived,
-    left: Reading,
+    function: Function<'t>,
+    left: &mut Vec<Unit<'t>>,
 ) -> Result<Option<Expr>, Memory>
-    ensures { IfOk result (λ e. option_map expr_of e ≡ expressions.expression (Arrow' arrows.Change ∷ Function (derived_of function) ∷ reading_shown left)) }
+    ensures { IfOk result (λ e. option_map expr_of e ≡ expressions.expression (units.Arrow' arrows.Change ∷ units.Function (function_of function.entry) ∷ backward left.old.items)) }
 {
-    let mut left = left;
-    let first = change(function, &mut left);
-    value(alloc, None, first, &mut left)
+    let first = change(function, left);
+    value(alloc, None, first, left)
 }
 
 /// An expression that ends in `·`.
-fn ends_in_skip(alloc: Global, skip: Part, left: Reading) -> Result<Option<Expr>, Memory>
-    ensures { IfOk result (λ e. option_map expr_of e ≡ expressions.expression (Absent (part_of skip) ∷ reading_shown left)) }
+fn ends_in_skip<'t>(
+    alloc: Global,
+    skip: Draft<'t>,
+    left: &mut Vec<Unit<'t>>,
+) -> Result<Option<Expr>, Memory>
+    ensures { IfOk result (λ e. option_map expr_of e ≡ expressions.expression (units.Absent (draft_of skip.entry) ∷ backward left.old.items)) }
 {
-    let Reading { next, rest } = left;
-    match next {
-        Some(Unit::Function(function)) => ends_in_call(alloc, skip, function, read(rest)),
+    match take(left) {
+        Some(Unit::Function(function)) => ends_in_call(alloc, skip, function, left),
         Some(Unit::Subject(_))
         | Some(Unit::Absent(_))
         | Some(Unit::Alone(_))
@@ -90,12 +100,11 @@ fn ends_in_skip(alloc: Global, skip: Part, left: Reading) -> Result<Option<Expr>
 
 /// An expression that ends in `↩`.
 #[tactic(auto, using(crate::proofs::Expressions::expression_laws))]
-fn ends_in_change(alloc: Global, left: Reading) -> Result<Option<Expr>, Memory>
-    ensures { IfOk result (λ e. option_map expr_of e ≡ expressions.expression (Arrow' arrows.Change ∷ reading_shown left)) }
+fn ends_in_change<'t>(alloc: Global, left: &mut Vec<Unit<'t>>) -> Result<Option<Expr>, Memory>
+    ensures { IfOk result (λ e. option_map expr_of e ≡ expressions.expression (units.Arrow' arrows.Change ∷ backward left.old.items)) }
 {
-    let Reading { next, rest } = left;
-    match next {
-        Some(Unit::Function(function)) => ends_in_change_by(alloc, function, read(rest)),
+    match take(left) {
+        Some(Unit::Function(function)) => ends_in_change_by(alloc, function, left),
         Some(Unit::Subject(_))
         | Some(Unit::Absent(_))
         | Some(Unit::Alone(_))
@@ -106,8 +115,12 @@ fn ends_in_change(alloc: Global, left: Reading) -> Result<Option<Expr>, Memory>
 }
 
 /// An expression that ends in an arrow.
-fn ends_in_arrow(alloc: Global, arrow: Arrow, left: Reading) -> Result<Option<Expr>, Memory>
-    ensures { IfOk result (λ e. option_map expr_of e ≡ expressions.expression (Arrow' arrow ∷ reading_shown left)) }
+fn ends_in_arrow<'t>(
+    alloc: Global,
+    arrow: Arrow,
+    left: &mut Vec<Unit<'t>>,
+) -> Result<Option<Expr>, Memory>
+    ensures { IfOk result (λ e. option_map expr_of e ≡ expressions.expression (units.Arrow' arrow ∷ backward left.old.items)) }
 {
     match arrow {
         Arrow::Change => ends_in_change(alloc, left),
@@ -117,40 +130,53 @@ fn ends_in_arrow(alloc: Global, arrow: Arrow, left: Reading) -> Result<Option<Ex
 
 /// An expression that ends in a modifier by itself.
 #[tactic(auto, using(bqn_syntax::specs::Levels::levels))]
-fn ends_in_modifier(alloc: Global, part: Part, left: Reading) -> Result<Option<Expr>, Memory>
-    ensures { IfOk result (λ e. option_map expr_of e ≡ expressions.expression (Alone (part_of part) ∷ reading_shown left)) }
+fn ends_in_modifier<'t>(
+    alloc: Global,
+    draft: Draft<'t>,
+    left: &mut Vec<Unit<'t>>,
+) -> Result<Option<Expr>, Memory>
+    ensures { IfOk result (λ e. option_map expr_of e ≡ expressions.expression (units.Alone (draft_of draft.entry) ∷ backward left.old.items)) }
 {
-    let tag = tag_of(&part);
+    let tag = tag_of_draft(&draft);
     match targets(alloc, tag, left)? {
         None => Ok(None),
-        Some(targets) => Ok(Some(Expr::Modifier { targets, part })),
+        Some(targets) => Ok(Some(Expr::Modifier {
+            targets,
+            part: part(alloc, draft)?,
+        })),
     }
 }
 
-/// The expression that is read leftward from here, or none.
-fn expression_from(alloc: Global, left: Reading) -> Result<Option<Expr>, Memory>
-    ensures { IfOk result (λ e. option_map expr_of e ≡ expressions.expression (reading_shown left)) }
+/// The expression that is read leftward from this unit, or none.
+fn expression_at<'t>(
+    alloc: Global,
+    unit: Unit<'t>,
+    left: &mut Vec<Unit<'t>>,
+) -> Result<Option<Expr>, Memory>
+    ensures { IfOk result (λ e. option_map expr_of e ≡ expressions.expression (unit_shown unit.entry ∷ backward left.old.items)) }
 {
-    let Reading { next, rest } = left;
-    match next {
-        Some(Unit::Subject(part)) => ends_in_part(alloc, part, read(rest)),
-        Some(Unit::Absent(skip)) => ends_in_skip(alloc, skip, read(rest)),
-        Some(Unit::Arrow(arrow)) => ends_in_arrow(alloc, arrow, read(rest)),
-        Some(Unit::Function(function)) => train(alloc, function, read(rest)),
-        Some(Unit::Alone(part)) => ends_in_modifier(alloc, part, read(rest)),
-        Some(Unit::Aim(_)) | None => Ok(None),
+    match unit {
+        Unit::Subject(draft) => ends_in_part(alloc, draft, left),
+        Unit::Absent(skip) => ends_in_skip(alloc, skip, left),
+        Unit::Arrow(arrow) => ends_in_arrow(alloc, arrow, left),
+        Unit::Function(function) => train(alloc, function, left),
+        Unit::Alone(draft) => ends_in_modifier(alloc, draft, left),
+        Unit::Aim(_) => Ok(None),
     }
 }
 
 /// The expression that the units of a piece are, or none.
-pub fn expression(alloc: Global, units: Row<Unit>) -> Result<Option<Expr>, Memory>
-    ensures { IfOk result (λ e. option_map expr_of e ≡ expressions.expression (backward units)) }
+pub fn expression<'t>(alloc: Global, units: &mut Vec<Unit<'t>>) -> Result<Option<Expr>, Memory>
+    ensures { IfOk result (λ e. option_map expr_of e ≡ expressions.expression (backward units.old.items)) }
 {
-    expression_from(alloc, read(units.into_vec()))
+    match take(units) {
+        Some(unit) => expression_at(alloc, unit, units),
+        None => Ok(None),
+    }
 }
 
 /// Whether this is the arrow `⇐`.
-fn is_export(unit: &Unit) -> bool
+fn is_export(unit: &Unit<'_>) -> bool
     ensures { result ≡ is_export (unit_shown unit.now) }
 {
     match unit {
@@ -165,50 +191,55 @@ fn is_export(unit: &Unit) -> bool
 
 /// The export of a unit, or none.
 #[tactic(auto, using(bqn_syntax::specs::Levels::levels))]
-fn export_of(unit: Unit) -> Option<Stmt>
-    ensures { option_map stmt_of result ≡ option_map (λ q. Export q) (expressions.exported (unit_shown unit)) }
+fn export_of(alloc: Global, unit: Unit<'_>) -> Result<Option<Stmt>, Memory>
+    ensures { IfOk result (λ s. option_map stmt_of s ≡ option_map (λ q. Export q) (expressions.exported (unit_shown unit.entry))) }
 {
-    match exported(unit) {
-        Some(pattern) => Some(Stmt::Export(pattern)),
-        None => None,
+    match exported(alloc, unit)? {
+        Some(pattern) => Ok(Some(Stmt::Export(pattern))),
+        None => Ok(None),
     }
 }
 
 /// Whether no unit is left.
-fn is_end(left: &Reading) -> bool
-    ensures { result ≡ is_end (reading_shown left.now) }
+#[tactic(auto, using(crate::proofs::Backward::end_laws))]
+fn is_end(left: &[Unit<'_>]) -> bool
+    ensures { result ≡ is_end (backward left.now) }
 {
-    match &left.next {
-        None => true,
-        Some(_) => false,
-    }
+    left.is_empty()
 }
 
 /// The export of a unit that stands alone, or none.
 #[tactic(auto, using(crate::proofs::Expressions::export_laws))]
-fn export_at(unit: Unit, left: Reading) -> Option<Stmt>
-    ensures { option_map stmt_of result ≡ expressions.statement (Arrow' arrows.Export ∷ unit_shown unit ∷ reading_shown left) }
+fn export_at<'t>(alloc: Global, unit: Unit<'t>, left: &[Unit<'t>]) -> Result<Option<Stmt>, Memory>
+    ensures { IfOk result (λ s. option_map stmt_of s ≡ expressions.statement (units.Arrow' arrows.Export ∷ unit_shown unit.entry ∷ backward left.now)) }
 {
-    if is_end(&left) { export_of(unit) } else { None }
+    if is_end(left) {
+        export_of(alloc, unit)
+    } else {
+        Ok(None)
+    }
 }
 
 /// The export of the one unit that is left, or none.
-fn export(left: Reading) -> Option<Stmt>
-    ensures { option_map stmt_of result ≡ expressions.statement (Arrow' arrows.Export ∷ reading_shown left) }
+fn export<'t>(alloc: Global, left: &mut Vec<Unit<'t>>) -> Result<Option<Stmt>, Memory>
+    ensures { IfOk result (λ s. option_map stmt_of s ≡ expressions.statement (units.Arrow' arrows.Export ∷ backward left.old.items)) }
 {
-    let Reading { next, rest } = left;
-    match next {
-        None => None,
-        Some(unit) => export_at(unit, read(rest)),
+    match take(left) {
+        None => Ok(None),
+        Some(unit) => export_at(alloc, unit, left),
     }
 }
 
 /// An expression that is evaluated, or none.
 #[tactic(auto, using(bqn_syntax::specs::Levels::levels))]
-fn evaluated(alloc: Global, left: Reading) -> Result<Option<Stmt>, Memory>
-    ensures { IfOk result (λ s. option_map stmt_of s ≡ option_map (λ e. Eval e) (expressions.expression (reading_shown left))) }
+fn evaluated<'t>(
+    alloc: Global,
+    unit: Unit<'t>,
+    left: &mut Vec<Unit<'t>>,
+) -> Result<Option<Stmt>, Memory>
+    ensures { IfOk result (λ s. option_map stmt_of s ≡ option_map (λ e. Eval e) (expressions.expression (unit_shown unit.entry ∷ backward left.old.items))) }
 {
-    match expression_from(alloc, left)? {
+    match expression_at(alloc, unit, left)? {
         Some(inner) => Ok(Some(Stmt::Eval(inner))),
         None => Ok(None),
     }
@@ -216,36 +247,26 @@ fn evaluated(alloc: Global, left: Reading) -> Result<Option<Stmt>, Memory>
 
 /// The statement that is read leftward from this unit, or none.
 #[tactic(auto, using(crate::proofs::Expressions::statement_laws))]
-fn statement_at(alloc: Global, unit: Unit, rest: Vec<Unit>) -> Result<Option<Stmt>, Memory>
-    ensures { IfOk result (λ s. option_map stmt_of s ≡ expressions.statement (unit_shown unit ∷ backward rest.items)) }
+fn statement_at<'t>(
+    alloc: Global,
+    unit: Unit<'t>,
+    left: &mut Vec<Unit<'t>>,
+) -> Result<Option<Stmt>, Memory>
+    ensures { IfOk result (λ s. option_map stmt_of s ≡ expressions.statement (unit_shown unit.entry ∷ backward left.old.items)) }
 {
     if is_export(&unit) {
-        Ok(export(read(rest)))
+        export(alloc, left)
     } else {
-        evaluated(
-            alloc,
-            Reading {
-                next: Some(unit),
-                rest,
-            },
-        )
-    }
-}
-
-/// The statement that is read leftward from here, or none.
-fn statement_from(alloc: Global, left: Reading) -> Result<Option<Stmt>, Memory>
-    ensures { IfOk result (λ s. option_map stmt_of s ≡ expressions.statement (reading_shown left)) }
-{
-    let Reading { next, rest } = left;
-    match next {
-        Some(unit) => statement_at(alloc, unit, rest),
-        None => Ok(None),
+        evaluated(alloc, unit, left)
     }
 }
 
 /// The statement that the units of a piece are, or none.
-pub fn statement(alloc: Global, units: Row<Unit>) -> Result<Option<Stmt>, Memory>
-    ensures { IfOk result (λ s. option_map stmt_of s ≡ expressions.statement (backward units)) }
+pub fn statement<'t>(alloc: Global, units: &mut Vec<Unit<'t>>) -> Result<Option<Stmt>, Memory>
+    ensures { IfOk result (λ s. option_map stmt_of s ≡ expressions.statement (backward units.old.items)) }
 {
-    statement_from(alloc, read(units.into_vec()))
+    match take(units) {
+        Some(unit) => statement_at(alloc, unit, units),
+        None => Ok(None),
+    }
 }

@@ -29,18 +29,18 @@ pub fn first_place(tokens: &[Token], first: Option<usize>, place: Place) -> Plac
 }
 
 /// A piece that has no form is refused at its first token.
-pub fn formless(tokens: &[Token], place: Place, level: &Level) -> ParseError
+pub fn formless(tokens: &[Token], place: Place, level: &Level<'_>) -> ParseError
     ensures { result ≡ error.Refused (refusal.Grammar (parsing.place_of_first (from_first tokens.now level.now.first) place)) }
 {
     ParseError::Refused(Refusal::Grammar(first_place(tokens, level.first, place)))
 }
 
 /// The piece that is being read is a statement.
-fn judge_statement(
+fn judge_statement<'t>(
     alloc: Global,
     tokens: &[Token],
     place: Place,
-    level: &mut Level,
+    level: &mut Level<'t>,
 ) -> Result<(), ParseError>
     ensures { Moves (parsing.well place parsing.and_statement (expressions.piece_statement (level_shown tokens.now level.old).items) (level_shown tokens.now level.old)) (level_shown tokens.now level.new) result }
 {
@@ -51,11 +51,11 @@ fn judge_statement(
 }
 
 /// The piece that is being read is a predicate.
-fn judge_predicate(
+fn judge_predicate<'t>(
     alloc: Global,
     tokens: &[Token],
     place: Place,
-    level: &mut Level,
+    level: &mut Level<'t>,
 ) -> Result<(), ParseError>
     ensures { Moves (parsing.well place parsing.and_statement (expressions.piece_predicate (level_shown tokens.now level.old).items) (level_shown tokens.now level.old)) (level_shown tokens.now level.new) result }
 {
@@ -66,11 +66,11 @@ fn judge_predicate(
 }
 
 /// The piece that is being read is an expression.
-fn judge_expression(
+fn judge_expression<'t>(
     alloc: Global,
     tokens: &[Token],
     place: Place,
-    level: &mut Level,
+    level: &mut Level<'t>,
 ) -> Result<(), ParseError>
     ensures { Moves (parsing.well place parsing.and_expression (expressions.piece_expression (level_shown tokens.now level.old).items) (level_shown tokens.now level.old)) (level_shown tokens.now level.new) result }
 {
@@ -81,11 +81,11 @@ fn judge_expression(
 }
 
 /// The piece that is being read is a pattern, whose leaves may be literals where they are allowed.
-fn judge_target(
+fn judge_target<'t>(
     alloc: Global,
     tokens: &[Token],
     place: Place,
-    level: &mut Level,
+    level: &mut Level<'t>,
     literals: bool,
 ) -> Result<(), ParseError>
     ensures { Moves (parsing.well place parsing.and_target (items.piece_pattern literals (level_shown tokens.now level.old).items) (level_shown tokens.now level.old)) (level_shown tokens.now level.new) result }
@@ -97,7 +97,12 @@ fn judge_target(
 }
 
 /// The piece that is being read is judged by what it stands in.
-fn judge(alloc: Global, tokens: &[Token], place: Place, level: &mut Level) -> Result<(), ParseError>
+fn judge<'t>(
+    alloc: Global,
+    tokens: &[Token],
+    place: Place,
+    level: &mut Level<'t>,
+) -> Result<(), ParseError>
     ensures { Moves (parsing.judged level.old.inside place (level_shown tokens.now level.old)) (level_shown tokens.now level.new) result }
 {
     match level.inside {
@@ -114,11 +119,11 @@ fn judge(alloc: Global, tokens: &[Token], place: Place, level: &mut Level) -> Re
 /// parentheses hold one.
 #[tactic(auto, using(crate::proofs::Walking::end_laws))]
 #[inline(always)]
-pub fn end(
+pub fn end<'t>(
     alloc: Global,
     tokens: &[Token],
     place: Place,
-    level: &mut Level,
+    level: &mut Level<'t>,
 ) -> Result<(), ParseError>
     ensures { Moves (parsing.ended place (level_shown tokens.now level.old)) (level_shown tokens.now level.new) result }
 {
@@ -133,11 +138,11 @@ pub fn end(
 
 /// The piece that is being read ends at a `?`.
 #[tactic(auto, using(crate::proofs::Walking::end_laws))]
-pub fn ask(
+pub fn ask<'t>(
     alloc: Global,
     tokens: &[Token],
     place: Place,
-    level: &mut Level,
+    level: &mut Level<'t>,
 ) -> Result<(), ParseError>
     ensures { Moves (parsing.asked (level_shown tokens.now level.old).items place (level_shown tokens.now level.old)) (level_shown tokens.now level.new) result }
 {

@@ -11,6 +11,7 @@ use crate::error::ParseError;
 use crate::item::Item;
 use bqn_base::{Memory, Place, Row};
 use bqn_syntax::{BodyTree, Expr, Header, Inside, Pattern, Stmt};
+use sqlite_items::Boxed;
 use std::alloc::Global;
 use std::mem;
 
@@ -18,28 +19,28 @@ use std::mem;
 /// of the piece that is being read and the items of that piece, and what has been read: expressions,
 /// patterns, or the bodies of a block and of its last body the header and the statements.
 #[derive(Drop)]
-pub struct Level {
+pub struct Level<'t> {
     pub inside: Inside,
     pub opened: Place,
     pub first: Option<usize>,
-    pub items: Vec<Item>,
+    pub items: Vec<Item<'t>>,
     pub expressions: Vec<Expr>,
     pub targets: Vec<Pattern>,
-    pub header: Option<Header>,
+    pub header: Option<Boxed<Header>>,
     pub statements: Vec<Stmt>,
     pub done: Vec<BodyTree>,
 }
 
 /// The innermost level, and those around it, the innermost last.
 #[derive(Drop)]
-pub struct Walk {
-    pub level: Level,
-    pub outer: Vec<Level>,
+pub struct Walk<'t> {
+    pub level: Level<'t>,
+    pub outer: Vec<Level<'t>>,
 }
 
-impl Level {
+impl<'t> Level<'t> {
     /// A level that opens at a place, with nothing in it.
-    pub fn new(alloc: Global, inside: Inside, opened: Place) -> Level
+    pub fn new(alloc: Global, inside: Inside, opened: Place) -> Level<'t>
         ensures { (tokens : List Token) → level_shown tokens result ≡ parsing.fresh inside opened }
     {
         Level {
@@ -67,8 +68,8 @@ impl Level {
     /// One more item in the piece that is being read.
     #[tactic(auto, using(crate::proofs::Walking::append_laws))]
     #[inline(always)]
-    pub fn and_item(&mut self, item: Item) -> Result<(), Memory>
-        ensures { IfOk result (λ done. (tokens : List Token) → level_shown tokens self.new ≡ parsing.and_item (item_of item) (level_shown tokens self.old)) }
+    pub fn and_item(&mut self, item: Item<'t>) -> Result<(), Memory>
+        ensures { IfOk result (λ done. (tokens : List Token) → level_shown tokens self.new ≡ parsing.and_item (item_of item.entry) (level_shown tokens self.old)) }
     {
         match self.items.push(item) {
             Ok(()) => Ok(()),
@@ -110,7 +111,7 @@ impl Level {
     }
 
     /// The piece that was read is this header.
-    pub fn and_header(&mut self, h: Header)
+    pub fn and_header(&mut self, h: Boxed<Header>)
         ensures { (tokens : List Token) → level_shown tokens self.new ≡ parsing.and_header (header_of h) (level_shown tokens self.old) }
     {
         self.header = Some(h);
@@ -130,7 +131,10 @@ impl Level {
     pub fn end_body(&mut self, alloc: Global) -> Result<(), Memory>
         ensures { IfOk result (λ done. (tokens : List Token) → level_shown tokens self.new ≡ parsing.and_body (level_shown tokens self.old)) }
     {
-        let header = self.header.take();
+        let header = match self.header.take() {
+            Some(header) => Some(header.into_inner()),
+            None => None,
+        };
         let statements = mem::replace(&mut self.statements, Vec::new(alloc));
         self.first = None;
         self.items.clear();

@@ -1,8 +1,10 @@
 //! The tree of a token list.
 #![tactic(auto)]
 
+mod act;
 mod blocks;
 mod close;
+mod draft;
 mod ends;
 mod error;
 mod expression;

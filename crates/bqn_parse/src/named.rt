@@ -1,13 +1,17 @@
-ghost use Rattle.std.specs.Prelude.{◌≡◌};
+ghost use Rattle.std.specs.Prelude.{◌≡◌, IfOk};
 ghost use Rattle.std.specs.Option.{option_map};
 ghost use Rattle.bqn_syntax.specs.Expressions.{single, exported_part, exported};
-ghost use Rattle.bqn_syntax.specs.Plain.{derived_of, part_of, pattern_of};
+ghost use Rattle.bqn_syntax.specs.Plain.{pattern_of};
 ghost use Rattle.bqn_syntax.specs.Sorts.{same_tag, role_tag, is_name, is_word, named};
-ghost use Rattle.bqn_syntax.specs.Units.{Function};
+ghost use Rattle.bqn_syntax.specs.Units as units;
+ghost use Rattle.bqn_parse.specs.Drafts.{draft_of, function_of};
 ghost use Rattle.bqn_parse.specs.Views.{unit_shown};
 
+use crate::draft::{Draft, Function};
 use crate::unit::Unit;
-use bqn_syntax::{Derived, Kind, Part, Pattern, Tag, Token};
+use bqn_base::Memory;
+use bqn_syntax::{Kind, Pattern, Tag, Token};
+use std::alloc::Global;
 
 fn same_tag(one: Tag, other: Tag) -> bool
     ensures { result ≡ same_tag one other }
@@ -40,11 +44,11 @@ fn is_word(kind: &Kind) -> bool
 
 /// The name of this role that a part is by itself.
 #[tactic(auto, using(bqn_syntax::specs::Levels::levels))]
-pub fn named(tag: Tag, part: Part) -> Option<Token>
-    ensures { result ≡ named tag (part_of part) }
+pub fn named<'t>(tag: Tag, draft: Draft<'t>) -> Option<&'t Token>
+    ensures { option_map (λ t. t.now) result ≡ named tag (draft_of draft.entry) }
 {
-    match part {
-        Part::Leaf(token) => {
+    match draft {
+        Draft::Token(token) => {
             if is_name(tag, &token.kind) {
                 Some(token)
             } else {
@@ -57,24 +61,20 @@ pub fn named(tag: Tag, part: Part) -> Option<Token>
 
 /// The part of a function that has no modifier.
 #[tactic(auto, using(crate::proofs::Singles::single_laws, bqn_syntax::specs::Levels::levels))]
-fn lone(function: Derived) -> Option<Part>
-    ensures { option_map part_of result ≡ single (Function (derived_of function)) }
+fn lone<'t>(function: Function<'t>) -> Option<Draft<'t>>
+    ensures { option_map draft_of result ≡ single (units.Function (function_of function.entry)) }
 {
-    let Derived { first, uses } = function;
-    if uses.list().is_empty() {
-        Some(first)
-    } else {
-        None
-    }
+    let Function { first, uses } = function;
+    if uses.is_empty() { Some(first) } else { None }
 }
 
 /// The part that a unit is by itself, with no modifier.
 #[tactic(auto, using(bqn_syntax::specs::Levels::levels))]
-pub fn single(unit: Unit) -> Option<Part>
-    ensures { option_map part_of result ≡ single (unit_shown unit) }
+pub fn single<'t>(unit: Unit<'t>) -> Option<Draft<'t>>
+    ensures { option_map draft_of result ≡ single (unit_shown unit.entry) }
 {
     match unit {
-        Unit::Subject(part) | Unit::Alone(part) => Some(part),
+        Unit::Subject(draft) | Unit::Alone(draft) => Some(draft),
         Unit::Function(function) => lone(function),
         Unit::Absent(_) | Unit::Arrow(_) | Unit::Aim(_) => None,
     }
@@ -82,36 +82,36 @@ pub fn single(unit: Unit) -> Option<Part>
 
 /// The name or `·` that a part is, as a pattern.
 #[tactic(auto, using(bqn_syntax::specs::Levels::levels))]
-fn exported_part(part: Part) -> Option<Pattern>
-    ensures { option_map pattern_of result ≡ exported_part (part_of part) }
+fn exported_part(alloc: Global, draft: Draft<'_>) -> Result<Option<Pattern>, Memory>
+    ensures { IfOk result (λ q. option_map pattern_of q ≡ exported_part (draft_of draft.entry)) }
 {
-    match part {
-        Part::Leaf(token) => {
+    match draft {
+        Draft::Token(token) => {
             if is_word(&token.kind) {
-                Some(Pattern::Name(token))
+                Ok(Some(Pattern::Name(token.copy(alloc)?)))
             } else {
-                None
+                Ok(None)
             }
         }
-        Part::Nothing(place) => Some(Pattern::Skip(place)),
-        _ => None,
+        Draft::Nothing(place) => Ok(Some(Pattern::Skip(place))),
+        _ => Ok(None),
     }
 }
 
 /// What is exported without a value: a name or a pattern.
 #[tactic(auto, using(bqn_syntax::specs::Levels::levels))]
-pub fn exported(unit: Unit) -> Option<Pattern>
-    ensures { option_map pattern_of result ≡ exported (unit_shown unit) }
+pub fn exported(alloc: Global, unit: Unit<'_>) -> Result<Option<Pattern>, Memory>
+    ensures { IfOk result (λ q. option_map pattern_of q ≡ exported (unit_shown unit.entry)) }
 {
     match unit {
-        Unit::Aim(pattern) => Some(pattern),
-        Unit::Absent(part) => exported_part(part),
-        Unit::Subject(part) => exported_part(part),
-        Unit::Alone(part) => exported_part(part),
-        Unit::Function(function) => match single(Unit::Function(function)) {
-            Some(part) => exported_part(part),
-            None => None,
+        Unit::Aim(pattern) => Ok(Some(pattern.into_inner())),
+        Unit::Absent(draft) | Unit::Subject(draft) | Unit::Alone(draft) => {
+            exported_part(alloc, draft)
+        }
+        Unit::Function(function) => match lone(function) {
+            Some(draft) => exported_part(alloc, draft),
+            None => Ok(None),
         },
-        Unit::Arrow(_) => None,
+        Unit::Arrow(_) => Ok(None),
     }
 }

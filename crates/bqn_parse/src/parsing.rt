@@ -23,7 +23,7 @@ const NOWHERE: Place = Place { line: 0, column: 0 };
 
 /// The tree, where every token has been read.
 #[tactic(auto, using(crate::proofs::Parsed::finish_laws))]
-fn finish(alloc: Global, tokens: &[Token], walk: &mut Walk) -> Result<Tree, ParseError>
+fn finish<'t>(alloc: Global, tokens: &[Token], walk: &mut Walk<'t>) -> Result<Tree, ParseError>
     ensures { Gives (program_of (walk_shown tokens.now walk.old).outer (ended nowhere (walk_shown tokens.now walk.old).level)) result }
 {
     end(alloc, tokens, NOWHERE, &mut walk.level)?;

@@ -15,20 +15,24 @@ use std::mem;
 
 /// Elements that are joined to what follows, and the element behind them.
 #[derive(Drop)]
-struct Joined {
-    elements: Vec<Element>,
-    last: Option<Element>,
+struct Joined<'t> {
+    elements: Vec<Element<'t>>,
+    last: Option<Element<'t>>,
 }
 
 /// The pattern that joined elements are: one element, or several that are a strand.
 #[tactic(auto, using(bqn_syntax::specs::Levels::levels, crate::proofs::Groups::group_laws))]
-fn group(alloc: Global, literals: bool, elements: Vec<Element>) -> Result<Option<Pattern>, Memory>
-    ensures { IfOk result (λ q. option_map pattern_of q ≡ group_pattern literals (elements_of elements.items)) }
+fn group<'t>(
+    alloc: Global,
+    literals: bool,
+    elements: Vec<Element<'t>>,
+) -> Result<Option<Pattern>, Memory>
+    ensures { IfOk result (λ q. option_map pattern_of q ≡ group_pattern literals (elements_of elements.entry.items)) }
 {
     let mut elements = elements;
     if elements.len() < 2 {
         return match elements.pop() {
-            Some(element) => Ok(element_pattern(literals, element)),
+            Some(element) => element_pattern(alloc, literals, element),
             None => Ok(None),
         };
     }
@@ -40,8 +44,8 @@ fn group(alloc: Global, literals: bool, elements: Vec<Element>) -> Result<Option
 }
 
 /// An element, where nothing or a joiner stands before.
-fn stand(row: &mut Joined, element: Element) -> bool
-    ensures { when result (strung_of row.new) ≡ one_element (elements_of row.old.elements.items) (option_map element_of row.old.last) (element_of element) }
+fn stand<'t>(row: &mut Joined<'t>, element: Element<'t>) -> bool
+    ensures { when result (strung_of row.new) ≡ one_element (elements_of row.old.elements.items) (option_map element_of row.old.last) (element_of element.entry) }
 {
     if row.last.is_some() {
         return false;
@@ -52,7 +56,7 @@ fn stand(row: &mut Joined, element: Element) -> bool
 
 /// A joiner, where an element stands before.
 #[tactic(auto, using(crate::proofs::Walking::append_laws))]
-fn join(row: &mut Joined) -> Result<bool, Memory>
+fn join<'t>(row: &mut Joined<'t>) -> Result<bool, Memory>
     ensures { IfOk result (λ fine. when fine (strung_of row.new) ≡ one_joiner (elements_of row.old.elements.items) (option_map element_of row.old.last)) }
 {
     match row.last.take() {
@@ -65,8 +69,8 @@ fn join(row: &mut Joined) -> Result<bool, Memory>
 }
 
 /// One more item: elements and joiners alternate.
-fn put(row: &mut Joined, item: Item) -> Result<bool, Memory>
-    ensures { IfOk result (λ fine. when fine (strung_of row.new) ≡ one_more (strung_of row.old) (item_of item)) }
+fn put<'t>(row: &mut Joined<'t>, item: Item<'t>) -> Result<bool, Memory>
+    ensures { IfOk result (λ fine. when fine (strung_of row.new) ≡ one_more (strung_of row.old) (item_of item.entry)) }
 {
     match item {
         Item::Standing(element) => Ok(stand(row, element)),
@@ -76,7 +80,11 @@ fn put(row: &mut Joined, item: Item) -> Result<bool, Memory>
 }
 
 /// The pattern of a piece that ends here.
-fn finished(alloc: Global, literals: bool, row: &mut Joined) -> Result<Option<Pattern>, Memory>
+fn finished<'t>(
+    alloc: Global,
+    literals: bool,
+    row: &mut Joined<'t>,
+) -> Result<Option<Pattern>, Memory>
     ensures { IfOk result (λ q. option_map pattern_of q ≡ ended literals (elements_of row.old.elements.items) (option_map element_of row.old.last)) }
 {
     match row.last.take() {
@@ -91,11 +99,11 @@ fn finished(alloc: Global, literals: bool, row: &mut Joined) -> Result<Option<Pa
 
 /// The items that are left, the first of them last, and then the end of the piece.
 #[tactic(auto, using(crate::proofs::Groups::piece_laws, crate::proofs::Fused::turn_laws))]
-fn read_all(
+fn read_all<'t>(
     alloc: Global,
     literals: bool,
-    row: &mut Joined,
-    items: &mut Vec<Item>,
+    row: &mut Joined<'t>,
+    items: &mut Vec<Item<'t>>,
 ) -> Result<Option<Pattern>, Memory>
     ensures { IfOk result (λ q. option_map pattern_of q ≡ spelt literals (strung_of row.old) (items_of (reverse items.old.items))) }
 {
@@ -112,10 +120,10 @@ fn read_all(
 /// The pattern that a piece is, whose leaves may be literals where they are allowed, or none. The
 /// items are used up.
 #[tactic(auto, using(crate::proofs::Groups::piece_laws, crate::proofs::Fused::turn_laws))]
-pub fn pattern(
+pub fn pattern<'t>(
     alloc: Global,
     literals: bool,
-    items: &mut Vec<Item>,
+    items: &mut Vec<Item<'t>>,
 ) -> Result<Option<Pattern>, Memory>
     ensures { IfOk result (λ q. option_map pattern_of q ≡ piece_pattern literals (items_of items.old.items)) }
 {

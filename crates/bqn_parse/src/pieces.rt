@@ -12,21 +12,24 @@ use bqn_syntax::{Expr, Stmt};
 use std::alloc::Global;
 
 /// The expression that a piece is, or none.
-pub fn piece_expression(alloc: Global, items: &mut Vec<Item>) -> Result<Option<Expr>, Memory>
+pub fn piece_expression<'t>(
+    alloc: Global,
+    items: &mut Vec<Item<'t>>,
+) -> Result<Option<Expr>, Memory>
     ensures { IfOk result (λ e. option_map expr_of e ≡ expressions.piece_expression (items_of items.old.items)) }
 {
     match units_in(alloc, items)? {
-        Some(units) => expression(alloc, units),
+        Some(mut units) => expression(alloc, &mut units),
         None => Ok(None),
     }
 }
 
 /// The statement that a piece is, or none.
-pub fn piece_statement(alloc: Global, items: &mut Vec<Item>) -> Result<Option<Stmt>, Memory>
+pub fn piece_statement<'t>(alloc: Global, items: &mut Vec<Item<'t>>) -> Result<Option<Stmt>, Memory>
     ensures { IfOk result (λ s. option_map stmt_of s ≡ expressions.piece_statement (items_of items.old.items)) }
 {
     match units_in(alloc, items)? {
-        Some(units) => statement(alloc, units),
+        Some(mut units) => statement(alloc, &mut units),
         None => Ok(None),
     }
 }
@@ -43,7 +46,7 @@ fn predicate(condition: Expr) -> Option<Stmt>
 }
 
 /// The predicate that a piece is, or none.
-pub fn piece_predicate(alloc: Global, items: &mut Vec<Item>) -> Result<Option<Stmt>, Memory>
+pub fn piece_predicate<'t>(alloc: Global, items: &mut Vec<Item<'t>>) -> Result<Option<Stmt>, Memory>
     ensures { IfOk result (λ s. option_map stmt_of s ≡ expressions.piece_predicate (items_of items.old.items)) }
 {
     match piece_expression(alloc, items)? {

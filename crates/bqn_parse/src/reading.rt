@@ -1,32 +1,27 @@
-ghost use Rattle.std.specs.Prelude.{◌≡◌};
-ghost use Rattle.bqn_parse.specs.Leftward.{reading_shown};
-ghost use Rattle.bqn_parse.specs.Views.{backward};
+ghost use Rattle.std.specs.Prelude.{◌≡◌, ◌∷◌, IfOk};
+ghost use Rattle.bqn_parse.specs.Leftward.{ahead, rest_of};
+ghost use Rattle.bqn_parse.specs.Views.{backward, unit_shown};
 
 use crate::unit::Unit;
+use bqn_base::Memory;
 
-/// Units that are read leftward: the next one, and those left of it. With no next one there is none.
-#[derive(Drop)]
-pub struct Reading {
-    pub next: Option<Unit>,
-    pub rest: Vec<Unit>,
-}
-
-/// The reading of these units, which stand in order.
+/// The next one of units that are read leftward: the last one.
 #[tactic(auto, using(crate::proofs::Backward::unit_laws))]
 #[inline(always)]
-pub fn read(units: Vec<Unit>) -> Reading
-    ensures { reading_shown result ≡ backward units.items }
+pub fn take<'t>(left: &mut Vec<Unit<'t>>) -> Option<Unit<'t>>
+    ensures next { backward left.old.items ≡ ahead result (backward left.new.items) }
+    ensures rest { backward left.new.items ≡ rest_of result (backward left.new.items) }
 {
-    let mut rest = units;
-    let next = rest.pop();
-    Reading { next, rest }
+    left.pop()
 }
 
-/// The next unit has been taken, and the one left of it is next.
+/// A unit that was taken is next again.
 #[tactic(auto, using(crate::proofs::Backward::unit_laws))]
-#[inline(always)]
-pub fn advance(left: &mut Reading)
-    ensures { reading_shown left.new ≡ backward left.old.rest.items }
+pub fn put_back<'t>(left: &mut Vec<Unit<'t>>, unit: Unit<'t>) -> Result<(), Memory>
+    ensures { IfOk result (λ done. backward left.new.items ≡ unit_shown unit.entry ∷ backward left.old.items) }
 {
-    left.next = left.rest.pop();
+    match left.push(unit) {
+        Ok(()) => Ok(()),
+        Err(_) => Err(Memory),
+    }
 }

@@ -7,6 +7,7 @@ ghost use Rattle.bqn_parse.specs.Views.{item_of};
 ghost use Rattle.bqn_parse.specs.Walking.{from_first, level_shown, walk_shown, Moves};
 
 use crate::close::close;
+use crate::draft::{Draft, boxed};
 use crate::error::ParseError;
 use crate::item::{Element, Item};
 use crate::judge::{ask, end, first_place, formless};
@@ -14,7 +15,7 @@ use crate::level::{Level, Walk};
 use crate::looks::Ahead;
 use bqn_base::{Place, Refusal};
 use bqn_headers::{HeadError, header};
-use bqn_syntax::{Bracket, Inside, Part, Sort, Token};
+use bqn_syntax::{Bracket, Inside, Sort, Token};
 use std::alloc::Global;
 use std::mem;
 
@@ -54,7 +55,7 @@ fn list_inside(ahead: Ahead, inside: Inside, at_head: bool) -> Inside
 }
 
 /// What pieces stand in behind a bracket that opens in this level.
-fn inside_of(bracket: Bracket, ahead: Ahead, level: &Level) -> Inside
+fn inside_of(bracket: Bracket, ahead: Ahead, level: &Level<'_>) -> Inside
     ensures { (tokens : List Token) → result ≡ parsing.inside_of bracket (ahead_shown ahead) (level_shown tokens level.now) }
 {
     match bracket {
@@ -67,8 +68,8 @@ fn inside_of(bracket: Bracket, ahead: Ahead, level: &Level) -> Inside
 
 /// One more item in the innermost level.
 #[inline(always)]
-fn take(index: usize, item: Item, walk: &mut Walk) -> Result<(), ParseError>
-    ensures { (tokens : List Token) → Moves (parsing.taken (item_of item) (drop index tokens) (walk_shown tokens walk.old)) (walk_shown tokens walk.new) result }
+fn take<'t>(index: usize, item: Item<'t>, walk: &mut Walk<'t>) -> Result<(), ParseError>
+    ensures { (tokens : List Token) → Moves (parsing.taken (item_of item.entry) (drop index tokens) (walk_shown tokens walk.old)) (walk_shown tokens walk.new) result }
 {
     walk.level.begin(index);
     walk.level.and_item(item)?;
@@ -77,12 +78,12 @@ fn take(index: usize, item: Item, walk: &mut Walk) -> Result<(), ParseError>
 
 /// A bracket opens.
 #[tactic(auto, using(crate::proofs::Stepping::open_laws))]
-fn enter(
+fn enter<'t>(
     alloc: Global,
     inside: Inside,
     index: usize,
     place: Place,
-    walk: &mut Walk,
+    walk: &mut Walk<'t>,
 ) -> Result<(), ParseError>
     ensures { (tokens : List Token) → Moves (parsing.opened inside (drop index tokens) place (walk_shown tokens walk.old)) (walk_shown tokens walk.new) result }
 {
@@ -96,12 +97,12 @@ fn enter(
 }
 
 /// A separator.
-fn separate(
+fn separate<'t>(
     alloc: Global,
     tokens: &[Token],
     index: usize,
     place: Place,
-    walk: &mut Walk,
+    walk: &mut Walk<'t>,
 ) -> Result<(), ParseError>
     ensures { Moves (parsing.separated walk.old.level.inside (drop index tokens.now) place (walk_shown tokens.now walk.old)) (walk_shown tokens.now walk.new) result }
 {
@@ -112,11 +113,11 @@ fn separate(
 }
 
 /// The last piece of a body ends, and the body with it.
-fn end_body(
+fn end_body<'t>(
     alloc: Global,
     tokens: &[Token],
     place: Place,
-    level: &mut Level,
+    level: &mut Level<'t>,
 ) -> Result<(), ParseError>
     ensures { Moves (parsing.body_ended (parsing.ended place (level_shown tokens.now level.old))) (level_shown tokens.now level.new) result }
 {
@@ -126,12 +127,12 @@ fn end_body(
 }
 
 /// `;`
-fn semicolon(
+fn semicolon<'t>(
     alloc: Global,
     tokens: &[Token],
     index: usize,
     place: Place,
-    walk: &mut Walk,
+    walk: &mut Walk<'t>,
 ) -> Result<(), ParseError>
     ensures { Moves (parsing.semicolon walk.old.level.inside (drop index tokens.now) place (walk_shown tokens.now walk.old)) (walk_shown tokens.now walk.new) result }
 {
@@ -142,12 +143,12 @@ fn semicolon(
 }
 
 /// `?`
-fn question(
+fn question<'t>(
     alloc: Global,
     tokens: &[Token],
     index: usize,
     place: Place,
-    walk: &mut Walk,
+    walk: &mut Walk<'t>,
 ) -> Result<(), ParseError>
     ensures { Moves (parsing.question walk.old.level.inside (drop index tokens.now) place (walk_shown tokens.now walk.old)) (walk_shown tokens.now walk.new) result }
 {
@@ -174,12 +175,12 @@ fn piece(tokens: &[Token], first: Option<usize>, index: usize) -> &[Token]
 }
 
 /// The piece that is being read is the header of a body.
-fn head(
+fn head<'t>(
     alloc: Global,
     tokens: &[Token],
     index: usize,
     place: Place,
-    level: &mut Level,
+    level: &mut Level<'t>,
 ) -> Result<(), ParseError>
     requires within { index ≤ length tokens.now }
     requires few { length tokens.now ≤ 2 ^ 28 }
@@ -187,7 +188,7 @@ fn head(
 {
     match header(alloc, piece(tokens, level.first, index)) {
         Ok(h) => {
-            level.and_header(h);
+            level.and_header(boxed(alloc, h)?);
             Ok(())
         }
         Err(HeadError::Bad) => Err(ParseError::Refused(Refusal::BadBlock(first_place(
@@ -201,12 +202,12 @@ fn head(
 
 /// The piece that is being read ends at a `:`.
 #[tactic(auto, using(crate::proofs::Stepping::head_laws))]
-fn end_head(
+fn end_head<'t>(
     alloc: Global,
     tokens: &[Token],
     index: usize,
     place: Place,
-    level: &mut Level,
+    level: &mut Level<'t>,
 ) -> Result<(), ParseError>
     requires within { index ≤ length tokens.now }
     requires few { length tokens.now ≤ 2 ^ 28 }
@@ -222,12 +223,12 @@ fn end_head(
 }
 
 /// `:`
-fn colon(
+fn colon<'t>(
     alloc: Global,
     tokens: &[Token],
     index: usize,
     place: Place,
-    walk: &mut Walk,
+    walk: &mut Walk<'t>,
 ) -> Result<(), ParseError>
     requires within { index ≤ length tokens.now }
     requires few { length tokens.now ≤ 2 ^ 28 }
@@ -242,13 +243,13 @@ fn colon(
 /// One token, which has this index and behind whose bracket this stands.
 #[tactic(auto, using(bqn_syntax::specs::Levels::levels))]
 #[inline(always)]
-pub fn step(
+pub fn step<'t>(
     alloc: Global,
     tokens: &[Token],
     index: usize,
-    token: &Token,
+    token: &'t Token,
     ahead: Ahead,
-    walk: &mut Walk,
+    walk: &mut Walk<'t>,
 ) -> Result<(), ParseError>
     requires within { index ≤ length tokens.now }
     requires few { length tokens.now ≤ 2 ^ 28 }
@@ -270,12 +271,12 @@ pub fn step(
         Sort::Selects => take(index, Item::Selecting, walk),
         Sort::Skips => take(
             index,
-            Item::Standing(Element::Part(Part::Nothing(place))),
+            Item::Standing(Element::Part(Draft::Nothing(place))),
             walk,
         ),
         Sort::Stands => {
-            let leaf = Part::Leaf(token.copy(alloc)?);
-            take(index, Item::Standing(Element::Part(leaf)), walk)
+            let draft = Draft::Token(token);
+            take(index, Item::Standing(Element::Part(draft)), walk)
         }
     }
 }

@@ -18,7 +18,7 @@ pub fn tag_of_class(class: Class) -> Tag
 
 /// The role of a part that ends in these names.
 #[tactic(auto, using(crate::proofs::LastName::last_tag_at_end))]
-fn tag_of_last(names: &[Token]) -> Tag
+pub fn tag_of_last(names: &[Token]) -> Tag
     ensures { result ≡ last_tag names.now }
 {
     match names.last() {
@@ -47,7 +47,7 @@ pub fn tag_of(part: &Part) -> Tag
 /// The role of an expression.
 #[cycle(tag)]
 #[tactic(auto, using(bqn_syntax::specs::Levels::levels))]
-fn tag_of_expr(expr: &Expr) -> Tag
+pub fn tag_of_expr(expr: &Expr) -> Tag
     ensures { result ≡ expr_tag (expr_of expr.now) }
 {
     match expr {

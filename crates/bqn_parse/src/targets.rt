@@ -1,108 +1,88 @@
 ghost use Rattle.std.specs.Prelude.{◌≡◌, ◌≤◌, ◌+◌, IfOk, [], ◌∷◌, length, reverse};
-ghost use Rattle.std.specs.Option.{option_and_then};
+ghost use Rattle.std.specs.Option.{option_and_then, option_map};
 ghost use Rattle.bqn_syntax.specs.Expressions.{single, targets};
 ghost use Rattle.bqn_syntax.specs.Sorts.{named};
 ghost use Rattle.bqn_syntax.specs.Units.{Arrow'};
-ghost use Rattle.bqn_parse.specs.Leftward.{reading_shown};
-ghost use Rattle.bqn_parse.specs.Trains.{aimed_shown, aims_left};
+ghost use Rattle.bqn_parse.specs.Trains.{targets_if};
 ghost use Rattle.bqn_parse.specs.Views.{backward, unit_shown};
 
-use crate::ends::{pushed, shrunk};
+use crate::ends::{push, shrunk};
 use crate::named::{named, single};
-use crate::reading::{Reading, read};
+use crate::reading::take;
 use crate::unit::Unit;
 use bqn_base::{Memory, Row};
 use bqn_syntax::{Arrow, Tag, Token};
 use std::alloc::Global;
 
-/// The targets so far, from right to left, and whether these are all.
-#[derive(Drop)]
-enum Aimed {
-    All(Vec<(Token, Arrow)>),
-    /// No target stands here.
-    Wrong,
-    More(Vec<(Token, Arrow)>, Reading),
-}
-
 /// The name of this role that a unit is.
-fn name_of(tag: Tag, unit: Unit) -> Option<Token>
-    ensures { result ≡ option_and_then (named tag) (single (unit_shown unit)) }
+fn name_of<'t>(tag: Tag, unit: Unit<'t>) -> Option<&'t Token>
+    ensures { option_map (λ t. t.now) result ≡ option_and_then (named tag) (single (unit_shown unit.entry)) }
 {
     match single(unit) {
-        Some(part) => named(tag, part),
+        Some(draft) => named(tag, draft),
         None => None,
     }
 }
 
-/// A target left of an arrow.
+/// One more target, left of an arrow, behind those found so far from right to left; whether there
+/// is one.
 #[tactic(auto, using(crate::proofs::Trains::train_laws))]
-fn before_arrow(
+fn before_arrow<'t>(
+    alloc: Global,
     tag: Tag,
-    found: Vec<(Token, Arrow)>,
+    found: &mut Vec<(Token, Arrow)>,
     arrow: Arrow,
-    left: Reading,
-) -> Result<Aimed, Memory>
-    ensures means { IfOk result (λ next. targets tag (reverse found.items) (Arrow' arrow ∷ reading_shown left) ≡ aimed_shown tag next) }
-    ensures fewer { IfOk result (λ next. aims_left next ≤ length (reading_shown left)) }
+    left: &mut Vec<Unit<'t>>,
+) -> Result<bool, Memory>
+    ensures means { IfOk result (λ fine. targets tag (reverse found.old.items) (Arrow' arrow ∷ backward left.old.items) ≡ targets_if fine tag (reverse found.new.items) (backward left.new.items)) }
+    ensures fewer { length (backward left.new.items) ≤ length (backward left.old.items) }
 {
-    let Reading { next, rest } = left;
-    match next {
-        None => Ok(Aimed::Wrong),
-        Some(unit) => match name_of(tag, unit) {
-            None => Ok(Aimed::Wrong),
-            Some(token) => Ok(Aimed::More(pushed(found, (token, arrow))?, read(rest))),
-        },
+    let Some(unit) = take(left) else {
+        return Ok(false);
+    };
+    match name_of(tag, unit) {
+        None => Ok(false),
+        Some(token) => {
+            push(found, (token.copy(alloc)?, arrow))?;
+            Ok(true)
+        }
     }
 }
 
-/// One more target, whose arrow is this unit.
-fn target_at(
+/// One more target, whose arrow is this unit; whether there is one.
+fn target_at<'t>(
+    alloc: Global,
     tag: Tag,
-    found: Vec<(Token, Arrow)>,
-    unit: Unit,
-    rest: Vec<Unit>,
-) -> Result<Aimed, Memory>
-    ensures means { IfOk result (λ next. targets tag (reverse found.items) (unit_shown unit ∷ backward rest.items) ≡ aimed_shown tag next) }
-    ensures fewer { IfOk result (λ next. aims_left next ≤ length (backward rest.items) + 1) }
+    found: &mut Vec<(Token, Arrow)>,
+    unit: Unit<'t>,
+    left: &mut Vec<Unit<'t>>,
+) -> Result<bool, Memory>
+    ensures means { IfOk result (λ fine. targets tag (reverse found.old.items) (unit_shown unit.entry ∷ backward left.old.items) ≡ targets_if fine tag (reverse found.new.items) (backward left.new.items)) }
+    ensures fewer { length (backward left.new.items) ≤ length (backward left.old.items) }
 {
-    match unit {
-        Unit::Arrow(arrow) => before_arrow(tag, found, arrow, read(rest)),
-        Unit::Subject(_) | Unit::Function(_) | Unit::Absent(_) | Unit::Alone(_) | Unit::Aim(_) =>
-            Ok(Aimed::Wrong),
-    }
-}
-
-/// One more target.
-fn next_target(tag: Tag, found: Vec<(Token, Arrow)>, left: Reading) -> Result<Aimed, Memory>
-    ensures means { IfOk result (λ next. targets tag (reverse found.items) (reading_shown left) ≡ aimed_shown tag next) }
-    ensures fewer { IfOk result (λ next. aims_left next ≤ length (reading_shown left)) }
-{
-    let Reading { next, rest } = left;
-    match next {
-        None => Ok(Aimed::All(found)),
-        Some(unit) => target_at(tag, found, unit, rest),
-    }
+    let Unit::Arrow(arrow) = unit else {
+        return Ok(false);
+    };
+    before_arrow(alloc, tag, found, arrow, left)
 }
 
 /// The names of this role, each before an arrow, that these units are, from left to right, or none.
 #[tactic(auto, using(crate::proofs::Trains::train_laws))]
-pub fn targets(
+pub fn targets<'t>(
     alloc: Global,
     tag: Tag,
-    left: Reading,
+    left: &mut Vec<Unit<'t>>,
 ) -> Result<Option<Row<(Token, Arrow)>>, Memory>
-    ensures { IfOk result (λ all. all ≡ targets tag [] (reading_shown left)) }
+    ensures { IfOk result (λ all. all ≡ targets tag [] (backward left.old.items)) }
 {
-    let mut aimed = Aimed::More(Vec::new(alloc), left);
-    'targets: loop {
-        match aimed {
-            Aimed::All(found) => {
-                let mut found = found;
-                found.reverse();
-                return Ok(Some(Row::new(shrunk(found))));
-            }
-            Aimed::Wrong => return Ok(None),
-            Aimed::More(found, left) => aimed = next_target(tag, found, left)?,
+    let mut found = Vec::new(alloc);
+    'targets: while let Some(unit) = take(left) {
+        match target_at(alloc, tag, &mut found, unit, left) {
+            Ok(true) => {}
+            Ok(false) => return Ok(None),
+            Err(error) => return Err(error),
         }
     }
+    found.reverse();
+    Ok(Some(Row::new(shrunk(found))))
 }

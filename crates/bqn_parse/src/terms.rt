@@ -2,57 +2,59 @@ ghost use Rattle.std.specs.Prelude.{◌≡◌, ◌<◌, IfOk, [], length, revers
 ghost use Rattle.std.specs.Option.{option_and_then, option_map};
 ghost use Rattle.bqn_syntax.specs.Expressions as expressions;
 ghost use Rattle.bqn_syntax.specs.Items as items;
-ghost use Rattle.bqn_syntax.specs.Plain.{part_of};
 ghost use Rattle.bqn_syntax.specs.Units.{bound};
+ghost use Rattle.bqn_parse.specs.Drafts.{draft_of, field_of};
 ghost use Rattle.bqn_parse.specs.Fused.{draw, drawn, ended, join, piece, put, select, stand, units_with, with_term};
 ghost use Rattle.bqn_parse.specs.Grouping.{grouping_shown};
 ghost use Rattle.bqn_parse.specs.Strands.{elements_of, reader_of, reading_of};
 ghost use Rattle.bqn_parse.specs.Views.{backward, element_of, item_of, items_of, when};
 
+use crate::draft::{Draft, Field, boxed, part, tag_of_draft};
 use crate::ends::{push, with_room};
 use crate::item::{Element, Item};
 use crate::strand::{element_parts, element_patterns};
-use crate::tags::tag_of;
 use crate::unit::Unit;
 use crate::units::{Binding, Grouping, beside, bind_part, closed};
-use bqn_base::{Memory, Row};
-use bqn_syntax::{Arrow, Kind, Part, Pattern, Tag, Token};
-use sqlite_items::Boxed;
+use bqn_base::Memory;
+use bqn_syntax::{Arrow, Kind, Pattern, Tag, Token};
 use std::alloc::Global;
 use std::mem;
 
 /// What is being read: nothing; an element; what a joiner or a dot asks for.
 #[derive(Drop)]
-enum Reading {
+enum Reading<'t> {
     Between,
-    At(Element),
+    At(Element<'t>),
     Joined,
-    Selected(Part),
+    Selected(Draft<'t>),
 }
 
 /// The units so far; what is being read, and the elements that are joined to it.
 #[derive(Drop)]
-struct Reader {
-    grouping: Grouping,
-    joined: Vec<Element>,
-    reading: Reading,
+struct Reader<'t> {
+    grouping: Grouping<'t>,
+    joined: Vec<Element<'t>>,
+    reading: Reading<'t>,
 }
 
 /// The strand of several elements.
 #[tactic(auto, using(bqn_syntax::specs::Levels::levels, crate::proofs::Readers::strand_laws))]
-fn plain_strand(
+fn plain_strand<'t>(
     alloc: Global,
-    grouping: &mut Grouping,
-    joined: Vec<Element>,
-    element: Element,
+    grouping: &mut Grouping<'t>,
+    joined: Vec<Element<'t>>,
+    element: Element<'t>,
 ) -> Result<bool, Memory>
     requires { 0 < length joined.items }
-    ensures { IfOk result (λ fine. when fine (grouping_shown grouping.new) ≡ with_term (grouping_shown grouping.old) (items.plain_term (elements_of joined.items) (element_of element))) }
+    ensures { IfOk result (λ fine. when fine (grouping_shown grouping.new) ≡ with_term (grouping_shown grouping.old) (items.plain_term (elements_of joined.entry.items) (element_of element.entry))) }
 {
     let mut elements = joined;
     push(&mut elements, element)?;
     match element_parts(alloc, elements) {
-        Ok(Some(parts)) => bind_part(alloc, grouping, Part::Strand(parts)),
+        Ok(Some(parts)) => {
+            let strand = Draft::Strand(boxed(alloc, parts)?);
+            bind_part(alloc, grouping, strand)
+        }
         Ok(None) => Ok(false),
         Err(error) => Err(error),
     }
@@ -60,19 +62,22 @@ fn plain_strand(
 
 /// The pattern of several elements.
 #[tactic(auto, using(bqn_syntax::specs::Levels::levels, crate::proofs::Readers::strand_laws))]
-fn aimed_strand(
+fn aimed_strand<'t>(
     alloc: Global,
-    grouping: &mut Grouping,
-    joined: Vec<Element>,
-    element: Element,
+    grouping: &mut Grouping<'t>,
+    joined: Vec<Element<'t>>,
+    element: Element<'t>,
 ) -> Result<bool, Memory>
     requires { 0 < length joined.items }
-    ensures { IfOk result (λ fine. when fine (grouping_shown grouping.new) ≡ with_term (grouping_shown grouping.old) (items.aimed_term (elements_of joined.items) (element_of element))) }
+    ensures { IfOk result (λ fine. when fine (grouping_shown grouping.new) ≡ with_term (grouping_shown grouping.old) (items.aimed_term (elements_of joined.entry.items) (element_of element.entry))) }
 {
     let mut elements = joined;
     push(&mut elements, element)?;
     match element_patterns(alloc, false, elements) {
-        Ok(Some(patterns)) => beside(grouping, Unit::Aim(Pattern::Strand(patterns))),
+        Ok(Some(patterns)) => {
+            let strand = boxed(alloc, Pattern::Strand(patterns))?;
+            beside(grouping, Unit::Aim(strand))
+        }
         Ok(None) => Ok(false),
         Err(error) => Err(error),
     }
@@ -81,13 +86,13 @@ fn aimed_strand(
 /// An element where no arrow follows, behind those that are joined to it.
 #[tactic(auto, using(bqn_syntax::specs::Levels::levels))]
 #[inline(always)]
-fn plain_term(
+fn plain_term<'t>(
     alloc: Global,
-    grouping: &mut Grouping,
-    joined: &mut Vec<Element>,
-    element: Element,
+    grouping: &mut Grouping<'t>,
+    joined: &mut Vec<Element<'t>>,
+    element: Element<'t>,
 ) -> Result<bool, Memory>
-    ensures { IfOk result (λ fine. when fine (grouping_shown grouping.new) ≡ with_term (grouping_shown grouping.old) (items.plain_term (elements_of joined.old.items) (element_of element))) }
+    ensures { IfOk result (λ fine. when fine (grouping_shown grouping.new) ≡ with_term (grouping_shown grouping.old) (items.plain_term (elements_of joined.old.items) (element_of element.entry))) }
 {
     if !joined.is_empty() {
         let joined = mem::replace(joined, Vec::new(alloc));
@@ -101,20 +106,20 @@ fn plain_term(
 
 /// An element directly before an arrow: a list or a strand there is a pattern.
 #[tactic(auto, using(bqn_syntax::specs::Levels::levels))]
-fn aimed_term(
+fn aimed_term<'t>(
     alloc: Global,
-    grouping: &mut Grouping,
-    joined: &mut Vec<Element>,
-    element: Element,
+    grouping: &mut Grouping<'t>,
+    joined: &mut Vec<Element<'t>>,
+    element: Element<'t>,
 ) -> Result<bool, Memory>
-    ensures { IfOk result (λ fine. when fine (grouping_shown grouping.new) ≡ with_term (grouping_shown grouping.old) (items.aimed_term (elements_of joined.old.items) (element_of element))) }
+    ensures { IfOk result (λ fine. when fine (grouping_shown grouping.new) ≡ with_term (grouping_shown grouping.old) (items.aimed_term (elements_of joined.old.items) (element_of element.entry))) }
 {
     if !joined.is_empty() {
         let joined = mem::replace(joined, Vec::new(alloc));
         return aimed_strand(alloc, grouping, joined, element);
     }
     match element {
-        Element::Part(Part::List(_)) => Ok(false),
+        Element::Part(Draft::List(_)) => Ok(false),
         Element::Part(part) => bind_part(alloc, grouping, part),
         Element::List(pattern) => beside(grouping, Unit::Aim(pattern)),
     }
@@ -122,59 +127,47 @@ fn aimed_term(
 
 /// One more name behind a part.
 #[tactic(auto, using(bqn_syntax::specs::Levels::levels))]
-fn with_name(alloc: Global, part: Part, name: Token) -> Result<Part, Memory>
-    ensures { IfOk result (λ field. part_of field ≡ items.with_name (part_of part) name) }
+fn with_name<'t>(alloc: Global, draft: Draft<'t>, name: &Token) -> Result<Field, Memory>
+    ensures { IfOk result (λ field. field_of field ≡ items.with_name (draft_of draft.entry) name.now) }
 {
-    match part {
-        Part::Field { base, names } => {
-            let mut names = names.into_vec();
-            push(&mut names, name)?;
-            Ok(Part::Field {
-                base,
-                names: Row::new(names),
-            })
-        }
-        part => {
-            let mut names = with_room(alloc, 1)?;
-            push(&mut names, name)?;
-            match Boxed::new(alloc, part) {
-                Ok(base) => Ok(Part::Field {
-                    base,
-                    names: Row::new(names),
-                }),
-                Err(_) => Err(Memory),
-            }
-        }
-    }
+    let mut field = match draft {
+        Draft::Field(field) => field.into_inner(),
+        draft => Field {
+            base: part(alloc, draft)?,
+            names: Vec::new(alloc),
+        },
+    };
+    push(&mut field.names, name.copy(alloc)?)?;
+    Ok(field)
 }
 
 /// The field that a dot asks for.
 #[tactic(auto, using(bqn_syntax::specs::Levels::levels))]
-fn selected(
+fn selected<'t>(
     alloc: Global,
-    reader: &mut Reader,
-    part: Part,
-    element: Element,
+    reader: &mut Reader<'t>,
+    draft: Draft<'t>,
+    element: Element<'t>,
 ) -> Result<bool, Memory>
-    ensures { IfOk result (λ fine. when fine (reader_of reader.new) ≡ stand (grouping_shown reader.old.grouping) (items.Selected (elements_of reader.old.joined.items) (part_of part)) (element_of element)) }
+    ensures { IfOk result (λ fine. when fine (reader_of reader.new) ≡ stand (grouping_shown reader.old.grouping) (items.Selected (elements_of reader.old.joined.items) (draft_of draft.entry)) (element_of element.entry)) }
 {
     let name = match element {
-        Element::Part(Part::Leaf(name)) => name,
+        Element::Part(Draft::Token(name)) => name,
         Element::Part(_) => return Ok(false),
         Element::List(_) => return Ok(false),
     };
     if !matches!(&name.kind, Kind::Word(..)) {
         return Ok(false);
     }
-    let field = with_name(alloc, part, name)?;
-    reader.reading = Reading::At(Element::Part(field));
+    let field = boxed(alloc, with_name(alloc, draft, name)?)?;
+    reader.reading = Reading::At(Element::Part(Draft::Field(field)));
     Ok(true)
 }
 
 /// An element that nothing is joined to.
 #[inline(always)]
-fn begin(reader: &mut Reader, element: Element)
-    ensures { reader_of reader.new ≡ piece (grouping_shown reader.old.grouping) (items.At [] (element_of element)) }
+fn begin<'t>(reader: &mut Reader<'t>, element: Element<'t>)
+    ensures { reader_of reader.new ≡ piece (grouping_shown reader.old.grouping) (items.At [] (element_of element.entry)) }
 {
     reader.joined.clear();
     reader.reading = Reading::At(element);
@@ -182,13 +175,13 @@ fn begin(reader: &mut Reader, element: Element)
 
 /// An element directly behind another one.
 #[inline(always)]
-fn stand_behind(
+fn stand_behind<'t>(
     alloc: Global,
-    reader: &mut Reader,
-    before: Element,
-    element: Element,
+    reader: &mut Reader<'t>,
+    before: Element<'t>,
+    element: Element<'t>,
 ) -> Result<bool, Memory>
-    ensures { IfOk result (λ fine. when fine (reader_of reader.new) ≡ stand (grouping_shown reader.old.grouping) (items.At (elements_of reader.old.joined.items) (element_of before)) (element_of element)) }
+    ensures { IfOk result (λ fine. when fine (reader_of reader.new) ≡ stand (grouping_shown reader.old.grouping) (items.At (elements_of reader.old.joined.items) (element_of before.entry)) (element_of element.entry)) }
 {
     if !plain_term(alloc, &mut reader.grouping, &mut reader.joined, before)? {
         return Ok(false);
@@ -199,8 +192,8 @@ fn stand_behind(
 
 /// An element, where one may stand.
 #[inline(always)]
-fn stand(alloc: Global, reader: &mut Reader, element: Element) -> Result<bool, Memory>
-    ensures { IfOk result (λ fine. when fine (reader_of reader.new) ≡ stand (grouping_shown reader.old.grouping) (reading_of (elements_of reader.old.joined.items) reader.old.reading) (element_of element)) }
+fn stand<'t>(alloc: Global, reader: &mut Reader<'t>, element: Element<'t>) -> Result<bool, Memory>
+    ensures { IfOk result (λ fine. when fine (reader_of reader.new) ≡ stand (grouping_shown reader.old.grouping) (reading_of (elements_of reader.old.joined.items) reader.old.reading) (element_of element.entry)) }
 {
     match mem::replace(&mut reader.reading, Reading::Between) {
         Reading::Between => {
@@ -218,7 +211,7 @@ fn stand(alloc: Global, reader: &mut Reader, element: Element) -> Result<bool, M
 
 /// A joiner.
 #[tactic(auto, using(crate::proofs::Walking::append_laws))]
-fn join(reader: &mut Reader) -> Result<bool, Memory>
+fn join<'t>(reader: &mut Reader<'t>) -> Result<bool, Memory>
     ensures { IfOk result (λ fine. when fine (reader_of reader.new) ≡ join (grouping_shown reader.old.grouping) (reading_of (elements_of reader.old.joined.items) reader.old.reading)) }
 {
     match mem::replace(&mut reader.reading, Reading::Joined) {
@@ -231,12 +224,12 @@ fn join(reader: &mut Reader) -> Result<bool, Memory>
 }
 
 /// A dot. A field is one of a subject.
-fn select(reader: &mut Reader) -> bool
+fn select<'t>(reader: &mut Reader<'t>) -> bool
     ensures { when result (reader_of reader.new) ≡ select (grouping_shown reader.old.grouping) (reading_of (elements_of reader.old.joined.items) reader.old.reading) }
 {
     match mem::replace(&mut reader.reading, Reading::Between) {
         Reading::At(Element::Part(part)) => {
-            if tag_of(&part) != Tag::Subject {
+            if tag_of_draft(&part) != Tag::Subject {
                 return false;
             }
             reader.reading = Reading::Selected(part);
@@ -248,14 +241,14 @@ fn select(reader: &mut Reader) -> bool
 }
 
 /// An arrow directly behind an element.
-fn draw_behind(
+fn draw_behind<'t>(
     alloc: Global,
-    grouping: &mut Grouping,
-    joined: &mut Vec<Element>,
-    before: Element,
+    grouping: &mut Grouping<'t>,
+    joined: &mut Vec<Element<'t>>,
+    before: Element<'t>,
     arrow: Arrow,
 ) -> Result<bool, Memory>
-    ensures { IfOk result (λ fine. when fine (grouping_shown grouping.new) ≡ option_and_then (λ next. drawn arrow next) (with_term (grouping_shown grouping.old) (items.aimed_term (elements_of joined.old.items) (element_of before)))) }
+    ensures { IfOk result (λ fine. when fine (grouping_shown grouping.new) ≡ option_and_then (λ next. drawn arrow next) (with_term (grouping_shown grouping.old) (items.aimed_term (elements_of joined.old.items) (element_of before.entry)))) }
 {
     if !aimed_term(alloc, grouping, joined, before)? {
         return Ok(false);
@@ -265,7 +258,7 @@ fn draw_behind(
 
 /// An arrow.
 #[tactic(auto, using(crate::proofs::Fused::draw_laws))]
-fn draw(alloc: Global, reader: &mut Reader, arrow: Arrow) -> Result<bool, Memory>
+fn draw<'t>(alloc: Global, reader: &mut Reader<'t>, arrow: Arrow) -> Result<bool, Memory>
     ensures { IfOk result (λ fine. when fine (reader_of reader.new) ≡ draw (grouping_shown reader.old.grouping) (reading_of (elements_of reader.old.joined.items) reader.old.reading) arrow) }
 {
     match mem::replace(&mut reader.reading, Reading::Between) {
@@ -283,8 +276,8 @@ fn draw(alloc: Global, reader: &mut Reader, arrow: Arrow) -> Result<bool, Memory
 
 /// One more item.
 #[inline(always)]
-fn put(alloc: Global, reader: &mut Reader, item: Item) -> Result<bool, Memory>
-    ensures { IfOk result (λ fine. when fine (reader_of reader.new) ≡ put (reader_of reader.old) (item_of item)) }
+fn put<'t>(alloc: Global, reader: &mut Reader<'t>, item: Item<'t>) -> Result<bool, Memory>
+    ensures { IfOk result (λ fine. when fine (reader_of reader.new) ≡ put (reader_of reader.old) (item_of item.entry)) }
 {
     match item {
         Item::Standing(element) => stand(alloc, reader, element),
@@ -296,13 +289,13 @@ fn put(alloc: Global, reader: &mut Reader, item: Item) -> Result<bool, Memory>
 }
 
 /// The element that is read last ends.
-fn end_behind(
+fn end_behind<'t>(
     alloc: Global,
-    grouping: &mut Grouping,
-    joined: &mut Vec<Element>,
-    last: Element,
+    grouping: &mut Grouping<'t>,
+    joined: &mut Vec<Element<'t>>,
+    last: Element<'t>,
 ) -> Result<bool, Memory>
-    ensures { IfOk result (λ fine. when fine (backward grouping.new.units.items) ≡ option_and_then (λ next. bound next) (with_term (grouping_shown grouping.old) (items.plain_term (elements_of joined.old.items) (element_of last)))) }
+    ensures { IfOk result (λ fine. when fine (backward grouping.new.units.items) ≡ option_and_then (λ next. bound next) (with_term (grouping_shown grouping.old) (items.plain_term (elements_of joined.old.items) (element_of last.entry)))) }
 {
     if !plain_term(alloc, grouping, joined, last)? {
         return Ok(false);
@@ -311,7 +304,7 @@ fn end_behind(
 }
 
 /// The piece ends here.
-fn finished(alloc: Global, reader: &mut Reader) -> Result<bool, Memory>
+fn finished<'t>(alloc: Global, reader: &mut Reader<'t>) -> Result<bool, Memory>
     ensures { IfOk result (λ fine. when fine (backward reader.new.grouping.units.items) ≡ ended (grouping_shown reader.old.grouping) (reading_of (elements_of reader.old.joined.items) reader.old.reading)) }
 {
     match mem::replace(&mut reader.reading, Reading::Between) {
@@ -323,7 +316,11 @@ fn finished(alloc: Global, reader: &mut Reader) -> Result<bool, Memory>
 
 /// The items that are left, the first of them last, and then the end of the piece.
 #[tactic(auto, using(crate::proofs::Fused::loop_laws, crate::proofs::Fused::turn_laws))]
-fn read_all(alloc: Global, reader: &mut Reader, items: &mut Vec<Item>) -> Result<bool, Memory>
+fn read_all<'t>(
+    alloc: Global,
+    reader: &mut Reader<'t>,
+    items: &mut Vec<Item<'t>>,
+) -> Result<bool, Memory>
     ensures { IfOk result (λ fine. when fine (backward reader.new.grouping.units.items) ≡ units_with (reader_of reader.old) (items_of (reverse items.old.items))) }
 {
     'items: while let Some(item) = items.pop() {
@@ -338,8 +335,11 @@ fn read_all(alloc: Global, reader: &mut Reader, items: &mut Vec<Item>) -> Result
 
 /// The units of a piece in order, or none where its items have no such form. The items are used up.
 #[tactic(auto, using(crate::proofs::Fused::loop_laws, crate::proofs::Fused::turn_laws))]
-pub fn units_in(alloc: Global, items: &mut Vec<Item>) -> Result<Option<Row<Unit>>, Memory>
-    ensures { IfOk result (λ units. option_map backward units ≡ expressions.units_in (items_of items.old.items)) }
+pub fn units_in<'t>(
+    alloc: Global,
+    items: &mut Vec<Item<'t>>,
+) -> Result<Option<Vec<Unit<'t>>>, Memory>
+    ensures { IfOk result (λ units. option_map (λ us. backward us.items) units ≡ expressions.units_in (items_of items.old.items)) }
 {
     let mut reader = Reader {
         grouping: Grouping {
@@ -354,5 +354,5 @@ pub fn units_in(alloc: Global, items: &mut Vec<Item>) -> Result<Option<Row<Unit>
         return Ok(None);
     }
     let Reader { grouping, .. } = reader;
-    Ok(Some(Row::new(grouping.units)))
+    Ok(Some(grouping.units))
 }

@@ -1,103 +1,118 @@
 ghost use Rattle.std.specs.Prelude.{◌≡◌, ◌≤◌, ◌+◌, IfOk, length, true, false};
 ghost use Rattle.std.specs.Option.{option_map};
 ghost use Rattle.bqn_syntax.specs.Expressions.{train};
-ghost use Rattle.bqn_syntax.specs.Plain.{and_deriveds, derived, derived_of, expr_of, no_deriveds, no_uses, part_of};
-ghost use Rattle.bqn_parse.specs.Leftward.{reading_shown};
-ghost use Rattle.bqn_parse.specs.declared.train.Parts.TheVariants as collected;
-ghost use Rattle.bqn_parse.specs.Trains.{parts_shown, train_shown, parts_left};
+ghost use Rattle.bqn_syntax.specs.Plain as plain;
+ghost use Rattle.bqn_syntax.specs.Plain.{and_deriveds, expr_of, no_deriveds, no_uses};
+ghost use Rattle.bqn_parse.specs.declared.train.Turn.TheVariants as turn;
+ghost use Rattle.bqn_parse.specs.Drafts.{draft_of, function_of};
+ghost use Rattle.bqn_parse.specs.Trains.{parts_shown, turn_left, turn_shown};
 ghost use Rattle.bqn_parse.specs.Views.{backward};
 
-use crate::ends::{pushed, shrunk};
-use crate::reading::{Reading, read};
+use crate::draft::{Draft, Function, derived, part};
+use crate::ends::{push, shrunk};
+use crate::reading::{put_back, take};
 use crate::targets::targets;
 use crate::unit::Unit;
 use bqn_base::{Memory, Row};
-use bqn_syntax::{Derived, Expr, Part, Tag};
+use bqn_syntax::{Derived, Expr, Tag};
 use std::alloc::Global;
 
-/// The parts of a train so far, from right to left, and what stands left of them: whether the next
-/// part may be any, or else no part.
+/// What stands left of the parts of a train.
 #[derive(Drop)]
-enum Parts {
-    More(bool, Vec<Derived>, Reading),
-    Aimed(Vec<Derived>, Reading),
-    /// No train stands here.
+enum Turn {
+    /// One more part, which has been read.
+    More,
+    /// Targets, or nothing.
+    Aimed,
+    /// Nothing that a train can have there.
     Wrong,
 }
 
-/// One more part, which is a function.
+/// A function is one more part.
 #[tactic(auto, using(crate::proofs::Trains::train_laws, bqn_syntax::specs::Levels::levels))]
-fn function_part(parts: Vec<Derived>, left: Reading) -> Result<Parts, Memory>
-    ensures means { IfOk result (λ next. train false (parts_shown parts.items) (reading_shown left) ≡ train_shown next) }
-    ensures fewer { IfOk result (λ next. parts_left next ≤ length (reading_shown left)) }
+fn push_function<'t>(
+    alloc: Global,
+    parts: &mut Vec<Derived>,
+    function: Function<'t>,
+) -> Result<(), Memory>
+    ensures { IfOk result (λ done. parts_shown parts.new.items ≡ and_deriveds (function_of function.entry) (parts_shown parts.old.items)) }
 {
-    let Reading { next, rest } = left;
-    match next {
+    push(parts, derived(alloc, function)?)
+}
+
+/// A part with no modifier is one more part.
+#[tactic(auto, using(crate::proofs::Trains::train_laws, bqn_syntax::specs::Levels::levels))]
+fn push_alone<'t>(alloc: Global, parts: &mut Vec<Derived>, draft: Draft<'t>) -> Result<(), Memory>
+    ensures { IfOk result (λ done. parts_shown parts.new.items ≡ and_deriveds (plain.derived (draft_of draft.entry) no_uses) (parts_shown parts.old.items)) }
+{
+    let alone = Derived {
+        first: part(alloc, draft)?,
+        uses: Row::new(Vec::new(alloc)),
+    };
+    push(parts, alone)
+}
+
+/// One more part, which is a function.
+fn function_part<'t>(
+    alloc: Global,
+    parts: &mut Vec<Derived>,
+    left: &mut Vec<Unit<'t>>,
+) -> Result<Turn, Memory>
+    ensures means { IfOk result (λ turn. train false (parts_shown parts.old.items) (backward left.old.items) ≡ turn_shown turn true (parts_shown parts.new.items) (backward left.new.items)) }
+    ensures fewer { IfOk result (λ turn. turn_left turn (backward left.new.items) ≤ length (backward left.old.items)) }
+{
+    match take(left) {
         Some(Unit::Function(function)) => {
-            Ok(Parts::More(true, pushed(parts, function)?, read(rest)))
+            push_function(alloc, parts, function)?;
+            Ok(Turn::More)
         }
-        Some(Unit::Arrow(arrow)) => Ok(Parts::Aimed(
-            parts,
-            Reading {
-                next: Some(Unit::Arrow(arrow)),
-                rest,
-            },
-        )),
-        None => Ok(Parts::Aimed(parts, Reading { next: None, rest })),
+        Some(Unit::Arrow(arrow)) => {
+            put_back(left, Unit::Arrow(arrow))?;
+            Ok(Turn::Aimed)
+        }
+        None => Ok(Turn::Aimed),
         Some(Unit::Subject(_))
         | Some(Unit::Absent(_))
         | Some(Unit::Alone(_))
-        | Some(Unit::Aim(_)) => Ok(Parts::Wrong),
+        | Some(Unit::Aim(_)) => Ok(Turn::Wrong),
     }
 }
 
-/// One more part, with no modifier, before which a function has to stand.
-#[tactic(auto, using(crate::proofs::Trains::train_laws, bqn_syntax::specs::Levels::levels))]
-fn lone_part(
-    alloc: Global,
-    parts: Vec<Derived>,
-    part: Part,
-    rest: Vec<Unit>,
-) -> Result<Parts, Memory>
-    ensures means { IfOk result (λ next. train false (and_deriveds (derived (part_of part) no_uses) (parts_shown parts.items)) (backward rest.items) ≡ train_shown next) }
-    ensures fewer { IfOk result (λ next. parts_left next ≤ length (backward rest.items) + 1) }
-{
-    let alone = Derived {
-        first: part,
-        uses: Row::new(Vec::new(alloc)),
-    };
-    Ok(Parts::More(false, pushed(parts, alone)?, read(rest)))
-}
-
 /// One more part, which is a function, a subject or `·`.
-#[tactic(auto, using(crate::proofs::Trains::train_laws, bqn_syntax::specs::Levels::levels))]
-fn any_part(alloc: Global, parts: Vec<Derived>, left: Reading) -> Result<Parts, Memory>
-    ensures means { IfOk result (λ next. train true (parts_shown parts.items) (reading_shown left) ≡ train_shown next) }
-    ensures fewer { IfOk result (λ next. parts_left next ≤ length (reading_shown left)) }
+fn any_part<'t>(
+    alloc: Global,
+    parts: &mut Vec<Derived>,
+    left: &mut Vec<Unit<'t>>,
+) -> Result<Turn, Memory>
+    ensures means { IfOk result (λ turn. train true (parts_shown parts.old.items) (backward left.old.items) ≡ turn_shown turn false (parts_shown parts.new.items) (backward left.new.items)) }
+    ensures fewer { IfOk result (λ turn. turn_left turn (backward left.new.items) ≤ length (backward left.old.items)) }
 {
-    let Reading { next, rest } = left;
-    match next {
+    match take(left) {
         Some(Unit::Function(function)) => {
-            Ok(Parts::More(false, pushed(parts, function)?, read(rest)))
+            push_function(alloc, parts, function)?;
+            Ok(Turn::More)
         }
-        Some(Unit::Subject(part)) => lone_part(alloc, parts, part, rest),
-        Some(Unit::Absent(part)) => lone_part(alloc, parts, part, rest),
-        Some(Unit::Arrow(arrow)) => Ok(Parts::Aimed(
-            parts,
-            Reading {
-                next: Some(Unit::Arrow(arrow)),
-                rest,
-            },
-        )),
-        None => Ok(Parts::Aimed(parts, Reading { next: None, rest })),
-        Some(Unit::Alone(_)) | Some(Unit::Aim(_)) => Ok(Parts::Wrong),
+        Some(Unit::Subject(draft)) | Some(Unit::Absent(draft)) => {
+            push_alone(alloc, parts, draft)?;
+            Ok(Turn::More)
+        }
+        Some(Unit::Arrow(arrow)) => {
+            put_back(left, Unit::Arrow(arrow))?;
+            Ok(Turn::Aimed)
+        }
+        None => Ok(Turn::Aimed),
+        Some(Unit::Alone(_)) | Some(Unit::Aim(_)) => Ok(Turn::Wrong),
     }
 }
 
 /// A train whose parts are all known, and its targets.
 #[tactic(auto, using(bqn_syntax::specs::Levels::levels))]
-fn aimed(alloc: Global, parts: Vec<Derived>, left: Reading) -> Result<Option<Expr>, Memory>
-    ensures { IfOk result (λ e. option_map expr_of e ≡ train_shown (collected.Aimed parts left)) }
+fn aimed<'t>(
+    alloc: Global,
+    parts: Vec<Derived>,
+    left: &mut Vec<Unit<'t>>,
+) -> Result<Option<Expr>, Memory>
+    ensures { IfOk result (λ e. option_map expr_of e ≡ turn_shown turn.Aimed true (parts_shown parts.items) (backward left.old.items)) }
 {
     let mut parts = parts;
     parts.reverse();
@@ -112,16 +127,26 @@ fn aimed(alloc: Global, parts: Vec<Derived>, left: Reading) -> Result<Option<Exp
 
 /// The function whose last part this is, by what stands left of it, or none.
 #[tactic(auto, using(crate::proofs::Trains::train_laws))]
-pub fn train(alloc: Global, last: Derived, left: Reading) -> Result<Option<Expr>, Memory>
-    ensures { IfOk result (λ e. option_map expr_of e ≡ train false (and_deriveds (derived_of last) no_deriveds) (reading_shown left)) }
+pub fn train<'t>(
+    alloc: Global,
+    last: Function<'t>,
+    left: &mut Vec<Unit<'t>>,
+) -> Result<Option<Expr>, Memory>
+    ensures { IfOk result (λ e. option_map expr_of e ≡ train false (and_deriveds (function_of last.entry) no_deriveds) (backward left.old.items)) }
 {
-    let mut so = Parts::More(false, pushed(Vec::new(alloc), last)?, left);
+    let mut parts = Vec::new(alloc);
+    push_function(alloc, &mut parts, last)?;
+    let mut any = false;
     'parts: loop {
-        match so {
-            Parts::More(true, parts, left) => so = any_part(alloc, parts, left)?,
-            Parts::More(false, parts, left) => so = function_part(parts, left)?,
-            Parts::Aimed(parts, left) => return aimed(alloc, parts, left),
-            Parts::Wrong => return Ok(None),
+        let turn = if any {
+            any_part(alloc, &mut parts, left)?
+        } else {
+            function_part(alloc, &mut parts, left)?
+        };
+        match turn {
+            Turn::More => any = !any,
+            Turn::Aimed => return aimed(alloc, parts, left),
+            Turn::Wrong => return Ok(None),
         }
     }
 }

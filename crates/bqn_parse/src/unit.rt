@@ -1,15 +1,17 @@
-use bqn_syntax::{Arrow, Derived, Part, Pattern};
+use crate::draft::{Draft, Function};
+use bqn_syntax::{Arrow, Pattern};
+use sqlite_items::Boxed;
 
 /// What stands in a piece once modifiers are bound.
 #[derive(Drop)]
-pub enum Unit {
-    Subject(Part),
-    Function(Derived),
+pub enum Unit<'t> {
+    Subject(Draft<'t>),
+    Function(Function<'t>),
     /// `·`
-    Absent(Part),
+    Absent(Draft<'t>),
     /// A modifier by itself.
-    Alone(Part),
+    Alone(Draft<'t>),
     Arrow(Arrow),
     /// A target that is no name.
-    Aim(Pattern),
+    Aim(Boxed<Pattern>),
 }

@@ -1,10 +1,7 @@
-use Rattle.std.proofs.Common.{◌∙◌, ap, drop, subst}
+use Rattle.std.proofs.Common.{drop, subst}
 use Rattle.bqn_syntax.specs.declared.sort.Inside.{Inside}
 use Rattle.bqn_syntax.specs.declared.sort.Sort.{Sort}
-use Rattle.bqn_syntax.specs.Items.{Standing, OfPart}
-use Rattle.bqn_syntax.specs.Levels.{part-Leaf, part-Nothing}
 use Rattle.bqn_syntax.specs.Parsing as parsing
-use Rattle.bqn_syntax.specs.Plain.{Part, Leaf}
 use Rattle.bqn_parse.specs.Looking.{ahead_shown}
 use Rattle.bqn_parse.specs.Walking.{walk_shown, Moves}
 use Rattle.bqn_parse.proofs.step.step.Goals as goal
@@ -47,12 +44,12 @@ returns-in-Skips c =
     let so = walk_shown tokens c.args.walk.now in
     let new = walk_shown tokens c.take-in-Skips.new.walk in
     subst (λ (s : Sort). Moves (parsing.step s (ahead_shown c.args.ahead) c.args.token.now (drop c.args.index tokens) so) new c.take-in-Skips.result) c.in-Skips.ensures
-    (subst (λ (x : Part). Moves (parsing.taken (Standing (OfPart x)) (drop c.args.index tokens) so) new c.take-in-Skips.result) (part-Nothing c.args.token.now.place) (c.take-in-Skips.ensures tokens))
+    (c.take-in-Skips.ensures tokens)
 
-pub returns-in_ok-copy-in-Stands : goal.returns-in_ok-copy-in-Stands
-returns-in_ok-copy-in-Stands c =
+pub returns-in-Stands : goal.returns-in-Stands
+returns-in-Stands c =
     let tokens = c.args.tokens.now in
     let so = walk_shown tokens c.args.walk.now in
     let new = walk_shown tokens c.take-in-Stands.new.walk in
     subst (λ (s : Sort). Moves (parsing.step s (ahead_shown c.args.ahead) c.args.token.now (drop c.args.index tokens) so) new c.take-in-Stands.result) c.in-Stands.ensures
-    (subst (λ (x : Part). Moves (parsing.taken (Standing (OfPart x)) (drop c.args.index tokens) so) new c.take-in-Stands.result) (part-Leaf c.in_ok-copy-in-Stands.field-0 ∙ ap Leaf c.in_ok-copy-in-Stands.ensures) (c.take-in-Stands.ensures tokens))
+    (c.take-in-Stands.ensures tokens)
