@@ -1,7 +1,7 @@
 ghost use Rattle.std.specs.Prelude.{◌≡◌, IfOk, IsTrue};
 ghost use Rattle.std.specs.List.{list_all};
 ghost use Rattle.bqn_base.specs.Names.{is_name_character as is_plain};
-ghost use Rattle.bqn_syntax.specs.Words.{begins_with_letter, is_modifier_word, is_name_character, is_name_word, lower_case, name_of, special_of, system_kind, word_kind};
+ghost use Rattle.bqn_syntax.specs.Words.{begins_with_letter, is_modifier_word, is_name_character, is_name_word, lower_case, name_of, system_kind, word_kind};
 
 use crate::extent::{is_a_digit, is_a_letter};
 use bqn_base::{Memory, Name};
@@ -14,20 +14,6 @@ const MODIFIER: [char; 1] = ['𝕣'];
 const ONE_SIDED: [char; 2] = ['_', '𝕣'];
 
 const TWO_SIDED: [char; 3] = ['_', '𝕣', '_'];
-
-/// The special name of one character, if it is one.
-pub(crate) fn special(c: char) -> Option<Special>
-    ensures { result ≡ special_of c }
-{
-    match c {
-        '𝕨' | '𝕎' => Some(Special::Left),
-        '𝕩' | '𝕏' => Some(Special::Right),
-        '𝕤' | '𝕊' => Some(Special::Own),
-        '𝕗' | '𝔽' => Some(Special::LeftOperand),
-        '𝕘' | '𝔾' => Some(Special::RightOperand),
-        _ => None,
-    }
-}
 
 fn may_stand_in_name(c: char) -> bool
     ensures { result ≡ is_name_character c }
@@ -83,19 +69,31 @@ fn lower_letters(alloc: Global, word: &[char]) -> Result<Vec<char>, AllocError>
         .collect(alloc)
 }
 
+/// The name that a word spells with capitals or underscores.
+#[inline(never)]
+#[tactic(auto, using(crate::proofs::Names::name_laws))]
+fn respelled(alloc: Global, word: &[char]) -> Result<Name, Memory>
+    requires { IsTrue (list_all is_name_character word.now) }
+    ensures { IfOk result (λ name. name ≡ name_of word.now) }
+{
+    let Ok(letters) = lower_letters(alloc, word) else {
+        return Err(Memory);
+    };
+    Name::new(alloc, letters.as_slice())
+}
+
 /// The name that a word spells: without case and underscores.
+#[inline(always)]
 #[tactic(auto, using(crate::proofs::Names::name_laws))]
 fn name(alloc: Global, word: &[char]) -> Result<Name, Memory>
     requires { IsTrue (list_all is_name_character word.now) }
     ensures { IfOk result (λ name. name ≡ name_of word.now) }
 {
     if is_spelled_plainly(word) {
-        return Name::new(alloc, word);
+        Name::new(alloc, word)
+    } else {
+        respelled(alloc, word)
     }
-    let Ok(letters) = lower_letters(alloc, word) else {
-        return Err(Memory);
-    };
-    Name::new(alloc, letters.as_slice())
 }
 
 /// Whether the word names the modifier itself.
@@ -106,17 +104,18 @@ fn is_a_modifier_word(word: &[char]) -> bool
 }
 
 /// What a word stands for, or none where it is no name.
+#[tactic(auto, using(crate::proofs::Names::word_laws))]
 pub(crate) fn kind_of_word(alloc: Global, word: &[char]) -> Result<Option<Kind>, Memory>
     ensures { IfOk result (λ kind. kind ≡ word_kind word.now) }
 {
+    if is_a_name_word(word) {
+        let name = name(alloc, word)?;
+        return Ok(Some(Kind::Word(name, role(word))));
+    }
     if is_a_modifier_word(word) {
         return Ok(Some(Kind::Special(Special::Modifier, role(word))));
     }
-    if !is_a_name_word(word) {
-        return Ok(None);
-    }
-    let name = name(alloc, word)?;
-    Ok(Some(Kind::Word(name, role(word))))
+    Ok(None)
 }
 
 /// What a word behind `•` stands for, or none where it is no name.
