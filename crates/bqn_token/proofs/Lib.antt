@@ -9,3 +9,4 @@ pub mod Alones
 pub mod Runs
 pub mod Few
 pub mod Pieces
+pub mod Plain

@@ -9,7 +9,7 @@ ghost use Rattle.bqn_token.specs.Tokenizing.{Gives, placed};
 use crate::error::TokenError;
 use crate::extent::{is_a_digit, may_start_name};
 use crate::single::{kind_of_alone, single};
-use crate::words::{kind_of_system_word, kind_of_word};
+use crate::words::{is_plainly_named, kind_of_system_word, kind_of_word, plain_kind};
 use bqn_base::{Memory, Place, Refusal};
 use bqn_literal::{NumberError, number, string};
 use bqn_syntax::Kind;
@@ -92,15 +92,7 @@ fn numeric(word: &[char], place: Place) -> Result<Option<Kind>, TokenError>
 }
 
 /// What a piece at a place stands for: nothing for a blank or a comment, or a token.
-///
-/// # Errors
-///
-/// The refusal of a bad word, and want of memory.
-pub(crate) fn kind_at(
-    alloc: Global,
-    piece: &[char],
-    place: Place,
-) -> Result<Option<Kind>, TokenError>
+fn any_kind_at(alloc: Global, piece: &[char], place: Place) -> Result<Option<Kind>, TokenError>
     requires { IsTrue (is_piece piece.now) }
     ensures { Gives (placed place (kind_of piece.now)) result }
 {
@@ -130,4 +122,25 @@ pub(crate) fn kind_at(
         return named(kind, place);
     }
     numeric(piece, place)
+}
+
+/// What a piece at a place stands for: nothing for a blank or a comment, or a token.
+///
+/// # Errors
+///
+/// The refusal of a bad word, and want of memory.
+#[inline(always)]
+pub(crate) fn kind_at(
+    alloc: Global,
+    piece: &[char],
+    place: Place,
+) -> Result<Option<Kind>, TokenError>
+    requires { IsTrue (is_piece piece.now) }
+    ensures { Gives (placed place (kind_of piece.now)) result }
+{
+    if is_plainly_named(piece) {
+        let kind = plain_kind(alloc, piece)?;
+        return Ok(Some(kind));
+    }
+    any_kind_at(alloc, piece, place)
 }

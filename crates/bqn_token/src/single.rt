@@ -174,6 +174,7 @@ fn mark(c: char) -> Option<Alone>
 }
 
 /// What a character that is neither a letter nor a digit stands for, if it is a piece by itself.
+#[inline(always)]
 fn sign(c: char) -> Option<Alone>
     ensures { result ≡ single_of c }
 {
@@ -197,6 +198,7 @@ pub(crate) fn single(c: char) -> Option<Alone>
 }
 
 /// Whether this is a piece by itself.
+#[inline(never)]
 #[tactic(auto, using(crate::proofs::Alones::some_laws))]
 pub(crate) fn is_single(c: char) -> bool
     ensures { result ≡ is_one_of singles c }

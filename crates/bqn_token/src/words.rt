@@ -1,10 +1,13 @@
-ghost use Rattle.std.specs.Prelude.{◌≡◌, IfOk, IsTrue};
+ghost use Rattle.std.specs.Prelude.{◌≡◌, IfOk, IsTrue, Ok, Some};
 ghost use Rattle.std.specs.List.{list_all};
+ghost use Rattle.bqn_base.specs.Characters.{is_lower};
 ghost use Rattle.bqn_base.specs.Names.{is_name_character as is_plain};
+ghost use Rattle.bqn_syntax.specs.Tokens.{kind_of};
 ghost use Rattle.bqn_syntax.specs.Words.{begins_with_letter, is_modifier_word, is_name_character, is_name_word, lower_case, name_of, system_kind, word_kind};
+ghost use Rattle.bqn_token.specs.Runs.{is_plain_name};
 
 use crate::extent::{is_a_digit, is_a_letter};
-use bqn_base::{Memory, Name};
+use bqn_base::{Memory, Name, Role};
 use bqn_roles::role;
 use bqn_syntax::{Kind, Special};
 use std::alloc::{AllocError, Global};
@@ -46,11 +49,42 @@ fn is_a_name_word(word: &[char]) -> bool
     begins_with_a_letter(word) && may_all_stand_in_name(word)
 }
 
+fn is_a_small_letter(c: char) -> bool
+    ensures { result ≡ is_lower c }
+{
+    c.is_ascii_lowercase()
+}
+
 fn is_spelled_plainly(word: &[char]) -> bool
     ensures { result ≡ list_all is_plain word.now }
 {
     word.iter()
         .all(|c| c.is_ascii_lowercase() || is_a_digit(*c))
+}
+
+/// Whether the word is a lower-case letter and then such letters and digits.
+#[tactic(auto, using(crate::proofs::Plain::named_laws))]
+pub(crate) fn is_plainly_named(word: &[char]) -> bool
+    ensures { result ≡ is_plain_name word.now }
+{
+    let Some((first, _)) = word.split_first() else {
+        return false;
+    };
+    if !is_a_small_letter(*first) {
+        return false;
+    }
+    is_spelled_plainly(word)
+}
+
+/// What such a word stands for.
+#[inline(always)]
+#[tactic(auto, using(crate::proofs::Plain::kind_laws))]
+pub(crate) fn plain_kind(alloc: Global, word: &[char]) -> Result<Kind, Memory>
+    requires { IsTrue (is_plain_name word.now) }
+    ensures { IfOk result (λ kind. kind_of word.now ≡ Ok (Some kind)) }
+{
+    let name = Name::new(alloc, word)?;
+    Ok(Kind::Word(name, Role::Subject))
 }
 
 fn lower(c: char) -> char

@@ -3,7 +3,7 @@ use Rattle.bqn_syntax.specs.declared.token.Kind.{Kind}
 use Rattle.bqn_syntax.specs.Tokens.{Trouble}
 use Rattle.bqn_token.specs.Tokenizing.{Gives, placed}
 use Rattle.bqn_token.proofs.Alones.{placed-single, kind-number}
-use Rattle.bqn_token.proofs.kinds.kind_at.Goals as goal
+use Rattle.bqn_token.proofs.kinds.any_kind_at.Goals as goal
 
 pub returns-in-Some-single : goal.returns-in-Some-single
 returns-in-Some-single c =
