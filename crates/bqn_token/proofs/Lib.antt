@@ -5,5 +5,8 @@ pub mod Singles
 pub mod Names
 pub mod Quotes
 pub mod Meanings
+pub mod Alones
+pub mod Runs
 pub mod Few
 pub mod Pieces
+pub mod Plain

@@ -1,16 +1,19 @@
 -- What a piece stands for, case by case.
-use Rattle.std.proofs.Common.{◌≡◌, ℕ, ℤ, [], ◌∷◌, Bool, false, Option, Some, None, Ok, Err, refl, ap, ◌∙◌}
-use Rattle.std.specs.Prelude.{◌==◌, if◌then◌else◌, position}
+use Rattle.std.proofs.Common.{◌≡◌, ℕ, zero, suc, ℤ, pos, ◌<◌, ◌+◌, ◌-◌, List, [], ◌∷◌, Bool, true, Option, Some, None, Ok, Err, length, refl, ap, ◌∙◌, arith}
+use Rattle.std.specs.Prelude.{◌==◌, if◌then◌else◌}
 use Rattle.std.specs.Option.{option_map}
 use Rattle.bqn_base.specs.declared.place.Place.{Place}
 use Rattle.bqn_base.specs.declared.refusal.Refusal.TheVariants as refusal
-use Rattle.bqn_base.specs.Literal.{Literal, Number, Bad, Range}
+use Rattle.std.proofs.lemmas.Bool.{eqb-true}
+use Rattle.std.proofs.lemmas.Bool.Decides.{nat_tests}
+use Rattle.std.proofs.lemmas.List.{nil_from_length}
+use Rattle.bqn_base.specs.Characters.{is_digit}
+use Rattle.bqn_base.specs.Literal.{Literal, Number, Bad, Range, literal}
 use Rattle.bqn_syntax.specs.declared.token.Special.{Special}
 use Rattle.bqn_syntax.specs.declared.token.Kind.{Kind}
 use Rattle.bqn_syntax.specs.declared.token.Kind.TheVariants as kind
-use Rattle.bqn_syntax.specs.Tokens.{number_kind, single_kind}
-use Rattle.bqn_syntax.specs.Words.{special_of, role_of}
-use Rattle.bqn_token.specs.Singles.{primitives}
+use Rattle.bqn_syntax.specs.Tokens.{number_kind}
+use Rattle.bqn_syntax.specs.Words.{role_of}
 use Rattle.bqn_token.specs.Tokenizing.{placed}
 use Rattle.bqn_literal.specs.Results.{number_of}
 use Rattle.bqn_literal.specs.declared.error.NumberError.TheVariants as e
@@ -32,7 +35,7 @@ number-range Range place is = refl
 
 pub ruleset number_laws = (number-ok, number-bad, number-range)
 
-abbrev single_if : Bool → Option Special → Option ℕ → ℕ → Kind
+abbrev pub single_if : Bool → Option Special → Option ℕ → ℕ → Kind
 single_if at_sign name code c =
     if at_sign then kind.Char 0
     else elim name [
@@ -40,8 +43,22 @@ single_if at_sign name code c =
       | None ↦ elim (option_map (λ n. kind.Given n) code) [ Some k ↦ k | None ↦ kind.Punct c ]
     ]
 
-single_kind-cases : (c : ℕ) (name : Option Special) (code : Option ℕ) → (c == 64) ≡ false → special_of c ≡ name → position (λ d. d == c) primitives ≡ code → single_kind c ≡ single_if false name code c
-single_kind-cases c name code at_sign n p =
-    ap (λ (b : Bool). single_if b (special_of c) (position (λ d. d == c) primitives) c) at_sign
-    ∙ ap (λ (o : Option Special). single_if false o (position (λ d. d == c) primitives) c) n
-    ∙ ap (λ (o : Option ℕ). single_if false name o c) p
+-- a digit stands for its number
+digit-at : (n : ℕ) → n < 10 → literal ((48 + n) ∷ []) ≡ Number (pos n)
+digit-at zero lt = refl
+digit-at (suc zero) lt = refl
+digit-at (suc (suc zero)) lt = refl
+digit-at (suc (suc (suc zero))) lt = refl
+digit-at (suc (suc (suc (suc zero)))) lt = refl
+digit-at (suc (suc (suc (suc (suc zero))))) lt = refl
+digit-at (suc (suc (suc (suc (suc (suc zero)))))) lt = refl
+digit-at (suc (suc (suc (suc (suc (suc (suc zero))))))) lt = refl
+digit-at (suc (suc (suc (suc (suc (suc (suc (suc zero)))))))) lt = refl
+digit-at (suc (suc (suc (suc (suc (suc (suc (suc (suc zero))))))))) lt = refl
+digit-at (suc (suc (suc (suc (suc (suc (suc (suc (suc (suc n)))))))))) lt = absurd (omega arith)
+
+pub digit-literal : (word : List ℕ) (c : ℕ) (cs : List ℕ) → word ≡ c ∷ cs → (length cs == 0) ≡ true → is_digit c ≡ true → literal word ≡ Number (pos (c - 48))
+digit-literal word c cs same none digit =
+    let below : c - 48 < 10 = grind (arith, nat_tests) in
+    let code : c ≡ 48 + (c - 48) = grind (arith, nat_tests) in
+    ap (λ (w : List ℕ). literal w) (same ∙ ap (λ (ds : List ℕ). c ∷ ds) (nil_from_length cs (eqb-true (length cs) 0 none)) ∙ ap (λ (x : ℕ). x ∷ []) code) ∙ digit-at (c - 48) below

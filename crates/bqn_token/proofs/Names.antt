@@ -1,13 +1,18 @@
 -- How words spell names.
-use Rattle.std.proofs.Common.{◌≡◌, ◌≤◌, ◌<◌, ◌+◌, ℕ, suc, List, [], ◌∷◌, Bool, true, false, length, drop, get_or, drop-cons, refl, sym, ap, ◌∙◌, arith, add-one}
-use Rattle.std.specs.Prelude.{cond, not, ◌==◌, ◌&&◌, if◌then◌else◌, map, filter}
+use Rattle.std.proofs.Common.{◌≡◌, ◌≤◌, ◌<◌, ◌+◌, ℕ, suc, List, [], ◌∷◌, Bool, true, false, Option, Some, None, length, drop, get_or, drop-cons, refl, sym, ap, ◌∙◌, arith, add-one}
+use Rattle.std.specs.Prelude.{cond, not, ◌==◌, ◌&&◌, ◌||◌, nat_eq, if◌then◌else◌, map, filter}
 use Rattle.std.specs.List.{list_all}
+use Rattle.std.specs.Cmp.Lexicographic.{pointwise, same_text}
+use lib.Chars.{codes}
 use Rattle.std.proofs.Math.ListN.{drop_of_length-le}
 use Rattle.std.proofs.lemmas.Bool.{eqb-true}
 use Rattle.std.proofs.lemmas.Bool.Decides.{nat_tests}
 use Rattle.bqn_base.specs.Names.{is_name_character as is_plain}
 use Rattle.bqn_base.specs.Characters.{is_upper, is_letter}
-use Rattle.bqn_syntax.specs.Words.{begins_with_letter, is_name_character, lower_case, name_of}
+use Rattle.bqn_syntax.specs.declared.token.Special.TheVariants.{Modifier}
+use Rattle.bqn_syntax.specs.declared.token.Kind.{Kind}
+use Rattle.bqn_syntax.specs.declared.token.Kind.TheVariants as kind
+use Rattle.bqn_syntax.specs.Words.{begins_with_letter, is_modifier_word, is_name_character, is_name_word, lower_case, name_of, role_of, word_kind}
 
 abbrev letter_if : Bool → ℕ → List ℕ → Bool
 letter_if under c cs = elim under [ true ↦ begins_with_letter cs | false ↦ is_letter c ]
@@ -40,11 +45,11 @@ plain-no_under c is = grind (arith, nat_tests)
 plain-no_capital : (c : ℕ) → is_plain c ≡ true → is_upper c ≡ false
 plain-no_capital c is = grind (arith, nat_tests)
 
-both-left : (a b : Bool) → (a && b) ≡ true → a ≡ true
+pub both-left : (a b : Bool) → (a && b) ≡ true → a ≡ true
 both-left true b e = refl
 both-left false b e = e
 
-both-right : (a b : Bool) → (a && b) ≡ true → b ≡ true
+pub both-right : (a b : Bool) → (a && b) ≡ true → b ≡ true
 both-right true b e = e
 both-right false b e = cc
 
@@ -73,3 +78,36 @@ plain-name_of (c ∷ cs) is = at (c == 95) refl (plain-name_of cs (both-right (i
     at false e rest = ap (λ (b : Bool). b && list_all is_plain (name_of cs)) (lower_case-plain c (both-left (is_name_character c) (list_all is_name_character cs) is) e) ∙ rest
 
 pub ruleset name_laws = (name_of-plain, plain-name_of)
+
+no_both : (word : List ℕ) → is_name_word word ≡ true → is_modifier_word word ≡ true → ⊥
+no_both word name modifier = at (pointwise nat_eq word (codes "𝕣")) (pointwise nat_eq word (codes "_𝕣")) (pointwise nat_eq word (codes "_𝕣_")) refl refl refl modifier
+  where
+    differs : (other : List ℕ) → is_name_word other ≡ false → pointwise nat_eq word other ≡ true → ⊥
+    differs other is_none same =
+        let equal : is_name_word word ≡ is_name_word other = ap (λ (w : List ℕ). is_name_word w) (same_text word other (sym same)) in
+        let never : true ≡ false = sym name ∙ equal ∙ is_none in
+        cc
+
+    at : (a b d : Bool) → pointwise nat_eq word (codes "𝕣") ≡ a → pointwise nat_eq word (codes "_𝕣") ≡ b → pointwise nat_eq word (codes "_𝕣_") ≡ d → (a || b || d) ≡ true → ⊥
+    at true b d e f g one = differs (codes "𝕣") refl e
+    at false true d e f g one = differs (codes "_𝕣") refl f
+    at false false true e f g one = differs (codes "_𝕣_") refl g
+    at false false false e f g one = cc
+
+abbrev kind_if : (modifier name : Bool) → List ℕ → Option Kind
+kind_if modifier name word = if modifier then Some (kind.Special Modifier (role_of word)) else if name then Some (kind.Word (name_of word) (role_of word)) else None
+
+pub kind-name : (word : List ℕ) → is_name_word word ≡ true → word_kind word ≡ Some (kind.Word (name_of word) (role_of word))
+kind-name word name = at (is_modifier_word word) refl
+  where
+    at : (modifier : Bool) → is_modifier_word word ≡ modifier → kind_if modifier (is_name_word word) word ≡ Some (kind.Word (name_of word) (role_of word))
+    at true e = absurd (no_both word name e)
+    at false e = ap (λ (b : Bool). kind_if false b word) name
+
+pub kind-modifier : (word : List ℕ) → is_modifier_word word ≡ true → word_kind word ≡ Some (kind.Special Modifier (role_of word))
+kind-modifier word modifier = ap (λ (b : Bool). kind_if b (is_name_word word) word) modifier
+
+pub kind-none : (word : List ℕ) → is_name_word word ≡ false → is_modifier_word word ≡ false → word_kind word ≡ None
+kind-none word name modifier = ap (λ (b : Bool). kind_if b (is_name_word word) word) modifier ∙ ap (λ (b : Bool). kind_if false b word) name
+
+pub ruleset word_laws = (kind-name, kind-modifier, kind-none)

@@ -4,17 +4,22 @@ use Rattle.std.specs.Prelude.{◌==◌, if◌then◌else◌}
 use Rattle.std.proofs.lemmas.List.{append-nil}
 use Rattle.bqn_base.specs.declared.place.Place.{Place}
 use Rattle.bqn_base.specs.declared.refusal.Refusal.{Refusal}
-use Rattle.bqn_syntax.specs.declared.progress.Progress.TheVariants.{Start}
+use Rattle.bqn_syntax.specs.declared.progress.Progress.{Progress}
+use Rattle.bqn_syntax.specs.declared.progress.Progress.TheVariants.{Start, Done}
 use Rattle.bqn_syntax.specs.declared.token.Kind.{Kind}
 use Rattle.bqn_syntax.specs.declared.token.Token.{Token}
 use Rattle.bqn_syntax.specs.Table.{is_piece}
-use Rattle.bqn_syntax.specs.Cut.{longest}
+use Rattle.bqn_syntax.specs.Cut.{longest, one_more}
 use Rattle.bqn_syntax.specs.Text.{text_of}
-use Rattle.bqn_syntax.specs.Tokens.{Trouble, refused_at, no_piece, kind_of, behind, with_kind, tokens_behind, tokens_of_text, tokens_of_source}
+use Rattle.bqn_syntax.specs.Tokens.{Trouble, refused_at, no_piece, kind_of, behind, past, with_kind, tokens_behind, tokens_of_text, tokens_of_source}
 use Rattle.bqn_syntax.proofs.Longest.{longest-first}
 use Rattle.bqn_token.specs.declared.error.TokenError.{TokenError}
 use Rattle.bqn_token.specs.declared.error.TokenError.TheVariants.{Refused, Memory}
-use Rattle.bqn_token.specs.Tokenizing.{Gives, Tokenizes, placed}
+use Rattle.bqn_token.specs.Tokenizing.{Gives, Tokenizes, placed, token_at}
+use Rattle.bqn_token.specs.Alones.{single_of, shown_alone}
+use Rattle.bqn_token.specs.declared.single.Alone.{Alone}
+use Rattle.bqn_token.proofs.Alones.{single-done, kind-single}
+use Rattle.bqn_token.proofs.Scan.{after_state, longest-cons}
 use Rattle.bqn_token.proofs.Few.{tokens-few}
 
 -- tokens in front of those that follow, or the refusal of what follows
@@ -121,15 +126,31 @@ pub tokens-end : (front : List Token) (place : Place) (text : List ℕ) → slic
 tokens-end front place [] e = ap (λ (ts : List Token). Ok ts) (append-nil front)
 tokens-end front place (c ∷ cs) e = cc
 
-pub some_left : (text : List ℕ) (c : ℕ) → slice_get text 0 ≡ Some c → 1 ≤ length text
-some_left [] c e = cc
-some_left (c ∷ cs) d e = omega arith
-
 -- an error at a piece is the error of the whole
 pub error-at : (whole : Result (List Token) Refusal) (front : List Token) (place : Place) (text : List ℕ) (count : ℕ) (error : TokenError) → onto front (tokens_behind 0 place text) ≡ whole → longest Start text ≡ Some count
     → Gives (placed place (kind_of (take count text))) (Err error) → Tokenizes whole (Err error)
 error-at whole front place text count (Refused r) same e is = sym same ∙ tokens-refused front place text count r e is
 error-at whole front place text count Memory same e is = tt
+
+-- the token of a piece, where it has one, stands before those that follow
+pub tokens-step : (front : List Token) (place : Place) (text : List ℕ) (count : ℕ) (k : Option Kind) → longest Start text ≡ Some count → placed place (kind_of (take count text)) ≡ Ok k
+    → onto (front ++ token_at k place) (tokens_behind 0 (behind (take count text) place) (drop count text)) ≡ onto front (tokens_behind 0 place text)
+tokens-step front place text count None e is =
+    ap (λ (ts : List Token). onto ts (tokens_behind 0 (behind (take count text) place) (drop count text))) (append-nil front) ∙ sym (tokens-nothing front place text count e is)
+tokens-step front place text count (Some k) e is = sym (tokens-token front place text count k e is)
+
+longest-done : (cs : List ℕ) → longest Done cs ≡ None
+longest-done [] = refl
+longest-done (c ∷ cs) = refl
+
+-- the same of a character that is a piece by itself
+pub tokens-alone : (front : List Token) (place : Place) (text : List ℕ) (c : ℕ) (cs : List ℕ) (a : Alone) → text ≡ c ∷ cs → single_of c ≡ Some a
+    → onto (front ++ token_at (shown_alone a c) place) (tokens_behind 0 (past c place) cs) ≡ onto front (tokens_behind 0 place text)
+tokens-alone front place text c cs a same is =
+    let one : longest Start (c ∷ cs) ≡ Some 1 =
+    longest-cons Start c cs ∙ ap (λ (r : Option Progress). after_state r cs) (single-done c a is) ∙ ap (λ (o : Option ℕ). one_more true o) (longest-done cs) in
+    tokens-step front place (c ∷ cs) 1 (shown_alone a c) one (ap (λ (k : Result (Option Kind) Trouble). placed place k) (kind-single c [] a is))
+    ∙ ap (λ (t : List ℕ). onto front (tokens_behind 0 place t)) (sym same)
 
 -- a place grows by at most one line and one column with each character
 pub line-behind : (piece : List ℕ) (place : Place) → (behind piece place).line ≤ place.line + length piece
@@ -150,12 +171,42 @@ column-behind (c ∷ cs) place = at (c == 10) (λ p. column-behind cs p)
     at true rest = let le = rest (record { line = place.line + 1; column = 1 }) in omega arith
     at false rest = let le = rest (record { line = place.line; column = place.column + 1 }) in omega arith
 
+pub line-behind-is : (piece : List ℕ) (place next : Place) → next ≡ behind piece place → next.line ≤ place.line + length piece
+line-behind-is piece place next is = rw is (line-behind piece place)
+
+pub column-behind-is : (piece : List ℕ) (place next : Place) → next ≡ behind piece place → next.column ≤ place.column + length piece
+column-behind-is piece place next is = rw is (column-behind piece place)
+
+pub line-past : (c : ℕ) (place next : Place) → next ≡ past c place → next.line ≤ place.line + 1
+line-past c place next is = line-behind-is (c ∷ []) place next is
+
+pub column-past : (c : ℕ) (place next : Place) → next ≡ past c place → next.column ≤ place.column + 1
+column-past c place next is = column-behind-is (c ∷ []) place next is
+
+-- the tokens of a text are the same before a piece and behind it
+pub piece-kept : (whole : Result (List Token) Refusal) (front new : List Token) (place next : Place) (text piece rest : List ℕ) (count : ℕ) (k : Option Kind) → onto front (tokens_behind 0 place text) ≡ whole → longest Start text ≡ Some count
+    → placed place (kind_of piece) ≡ Ok k → piece ≡ take count text → rest ≡ drop count text → new ≡ front ++ token_at k place → next ≡ behind piece place → onto new (tokens_behind 0 next rest) ≡ whole
+piece-kept whole front new place next text piece rest count k same e is piece_is rest_is new_is next_is =
+    ap (λ (p : Place). onto new (tokens_behind 0 p rest)) (next_is ∙ ap (λ (p : List ℕ). behind p place) piece_is)
+    ∙ ap (λ (ts : List Token). onto ts (tokens_behind 0 (behind (take count text) place) rest)) new_is
+    ∙ ap (λ (cs : List ℕ). onto (front ++ token_at k place) (tokens_behind 0 (behind (take count text) place) cs)) rest_is
+    ∙ tokens-step front place text count k e (ap (λ (p : List ℕ). placed place (kind_of p)) (sym piece_is) ∙ is)
+    ∙ same
+
+pub alone-kept : (whole : Result (List Token) Refusal) (front new : List Token) (place next : Place) (text cs : List ℕ) (c : ℕ) (a : Alone) (k : Option Kind) → onto front (tokens_behind 0 place text) ≡ whole → text ≡ c ∷ cs → single_of c ≡ Some a
+    → k ≡ shown_alone a c → new ≡ front ++ token_at k place → next ≡ past c place → onto new (tokens_behind 0 next cs) ≡ whole
+alone-kept whole front new place next text cs c a k same parts is shown new_is next_is =
+    ap (λ (p : Place). onto new (tokens_behind 0 p cs)) next_is
+    ∙ ap (λ (ts : List Token). onto ts (tokens_behind 0 (past c place) cs)) (new_is ∙ ap (λ (k : Option Kind). front ++ token_at k place) shown)
+    ∙ tokens-alone front place text c cs a parts is
+    ∙ same
+
 pub tokens-ok : (bytes text : List ℕ) → text_of bytes ≡ Ok text → tokens_of_text text ≡ tokens_of_source bytes
 tokens-ok bytes text e = sym (ap (λ (r : Result (List ℕ) Refusal). elim r as (λ _. Result (List Token) Refusal) [ Ok t ↦ tokens_of_text t | Err s ↦ Err s ]) e)
 
 pub tokens-err : (bytes : List ℕ) (r : Refusal) → text_of bytes ≡ Err r → tokens_of_source bytes ≡ Err r
 tokens-err bytes r e = ap (λ (r : Result (List ℕ) Refusal). elim r as (λ _. Result (List Token) Refusal) [ Ok t ↦ tokens_of_text t | Err s ↦ Err s ]) e
 
-pub ruleset cut_laws = (onto-nil, longest-some, longest-inside, longest-piece, tokens-nothing, tokens-token, tokens-stuck, tokens-end, some_left, line-behind, column-behind)
+pub ruleset cut_laws = (onto-nil, longest-piece, tokens-stuck, tokens-end)
 
 pub ruleset source_laws = (tokens-ok, tokens-err, tokens-few)

@@ -21,11 +21,11 @@ all_but_last-empty (c ∷ cs) e = absurd (omega arith)
 
 pub ruleset last_laws = (all_but_last-split, all_but_last-empty)
 
-abbrev piece_after : Option Progress → List ℕ → Bool
+abbrev pub piece_after : Option Progress → List ℕ → Bool
 piece_after None cs = false
 piece_after (Some after) cs = is_piece_from after cs
 
-is_piece_from-cons : (state : Progress) (c : ℕ) (cs : List ℕ) → is_piece_from state (c ∷ cs) ≡ piece_after (next state c) cs
+pub is_piece_from-cons : (state : Progress) (c : ℕ) (cs : List ℕ) → is_piece_from state (c ∷ cs) ≡ piece_after (next state c) cs
 is_piece_from-cons state c cs = at (next state c)
   where
     at : (after : Option Progress) → (elim after as (λ _. Bool) [ None ↦ false | Some s ↦ is_piece_from s cs ]) ≡ piece_after after cs

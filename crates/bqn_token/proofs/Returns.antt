@@ -1,7 +1,9 @@
 -- Carriage returns before line feeds, dropped as the characters come.
-use Rattle.std.proofs.Common.{◌≡◌, ◌≤◌, ◌<◌, ◌-◌, ◌+◌, ℕ, zero, suc, List, [], ◌∷◌, ◌++◌, Bool, true, false, Option, Some, None, length, take, slice_get, refl, sym, ap, ◌∙◌, arith}
+use Rattle.std.proofs.Common.{◌≡◌, ◌≤◌, ◌<◌, ◌-◌, ◌+◌, ℕ, zero, suc, List, [], ◌∷◌, ◌++◌, Bool, true, false, Option, Some, None, length, take, get_or, slice_get, refl, sym, ap, ◌∙◌, arith}
 use Rattle.std.proofs.lemmas.Bool.{eqb-true}
-use Rattle.std.specs.Prelude.{◌==◌, ◌&&◌, if◌then◌else◌}
+use Rattle.std.specs.Prelude.{◌==◌, ◌&&◌, ◌||◌, nat_eq, if◌then◌else◌}
+use Rattle.std.specs.List.{list_any}
+use Rattle.std.proofs.lemmas.List.{take_more, take_all}
 use Rattle.bqn_syntax.specs.Text.{without_returns, is_dropped}
 use Rattle.bqn_token.specs.Tokenizing.{without_last_return, with_character}
 
@@ -97,3 +99,26 @@ without_last_return-none [] e = refl
 without_last_return-none (c ∷ cs) e = absurd (missing (c ∷ cs) (length (c ∷ cs) - 1) (omega arith) e)
 
 pub ruleset last_laws = (without_last_return-return, without_last_return-other, without_last_return-none)
+
+-- where no character is a carriage return, none is dropped
+pub without_returns-none : (cs : List ℕ) → list_any (λ c. nat_eq c 13) cs ≡ false → without_returns cs ≡ cs
+without_returns-none [] none = refl
+without_returns-none (c ∷ cs) none = at (c == 13) refl none (without_returns-none cs)
+  where
+    kept : (ds : List ℕ) → (c == 13) ≡ false → is_dropped c ds ≡ false
+    kept [] e = refl
+    kept (d ∷ ds) e = ap (λ (b : Bool). b && (d == 10)) e
+
+    at : (return : Bool) → (c == 13) ≡ return → (return || list_any (λ x. nat_eq x 13) cs) ≡ false → (list_any (λ x. nat_eq x 13) cs ≡ false → without_returns cs ≡ cs)
+        → without_returns (c ∷ cs) ≡ c ∷ cs
+    at true e one rest = cc
+    at false e one rest = ap (λ (b : Bool). kept_if b c (without_returns cs)) (kept cs e) ∙ ap (λ (w : List ℕ). c ∷ w) (rest one)
+
+pub without_returns-take : (cs : List ℕ) (i c : ℕ) → i < length cs → c ≡ get_or cs i c → with_character (without_returns (take i cs)) c ≡ without_returns (take (i + 1) cs)
+without_returns-take cs i c lt at =
+    sym (without_returns-push (take i cs) c) ∙ ap (λ (x : ℕ). without_returns (take i cs ++ x ∷ [])) at ∙ ap (λ (w : List ℕ). without_returns w) (sym (take_more cs i c lt))
+
+pub without_returns-all : (cs : List ℕ) (i : ℕ) → length cs ≤ i → without_returns (take i cs) ≡ without_returns cs
+without_returns-all cs i le = ap (λ (w : List ℕ). without_returns w) (take_all i cs le)
+
+pub ruleset return_laws = (without_returns-none, without_returns-take, without_returns-all)

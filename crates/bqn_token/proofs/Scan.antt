@@ -21,11 +21,11 @@ scan-start text = go (longest Start text)
 pub scan-end : (text : List ℕ) (state : Progress) (best : Option ℕ) (i : ℕ) → length text ≤ i → or_best best i (longest state (drop i text)) ≡ best
 scan-end text state best i le = rw (drop_of_length-le text le) refl
 
-abbrev after_state : Option Progress → List ℕ → Option ℕ
+abbrev pub after_state : Option Progress → List ℕ → Option ℕ
 after_state None cs = None
 after_state (Some after) cs = one_more (is_final after) (longest after cs)
 
-longest-cons : (state : Progress) (c : ℕ) (cs : List ℕ) → longest state (c ∷ cs) ≡ after_state (next state c) cs
+pub longest-cons : (state : Progress) (c : ℕ) (cs : List ℕ) → longest state (c ∷ cs) ≡ after_state (next state c) cs
 longest-cons state c cs = go (next state c)
   where
     go : (r : Option Progress) → (elim r as (λ _. Option ℕ) [ None ↦ None | Some after ↦ one_more (is_final after) (longest after cs) ]) ≡ after_state r cs

@@ -75,7 +75,7 @@ is_some-place_from (d ∷ ds) count c = at (d == c) (is_some-place_from ds (coun
     at true e = refl
     at false e = e
 
-is_some-position : (ds : List ℕ) (c : ℕ) → is_some (position (λ d. d == c) ds) ≡ is_one_of ds c
+pub is_some-position : (ds : List ℕ) (c : ℕ) → is_some (position (λ d. d == c) ds) ≡ is_one_of ds c
 is_some-position ds c = ap (λ (o : Option ℕ). is_some o) (position-place_from ds c) ∙ is_some-place_from ds 0 c
 
 singles-or : (c : ℕ) → (is_mark c || is_some (position (λ d. d == c) primitives)) ≡ is_one_of singles c

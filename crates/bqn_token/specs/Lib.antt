@@ -1,2 +1,4 @@
 pub mod Tokenizing
 pub mod Singles
+pub mod Alones
+pub mod Runs

@@ -1,8 +1,9 @@
 -- What tokenizing gives, beside the definition of the tokens.
-use Rattle.std.specs.Prelude.{◌≡◌, ℕ, ◌==◌, if◌then◌else◌, List, [], ◌∷◌, ◌++◌, Vec, Result, Ok, Err}
+use Rattle.std.specs.Prelude.{◌≡◌, ℕ, ◌==◌, if◌then◌else◌, List, [], ◌∷◌, ◌++◌, Option, Some, None, Vec, Result, Ok, Err}
 use Rattle.std.specs.declared.alloc.Global.{Global}
 use Rattle.bqn_base.specs.declared.place.Place.{Place}
 use Rattle.bqn_base.specs.declared.refusal.Refusal.{Refusal}
+use Rattle.bqn_syntax.specs.declared.token.Kind.{Kind}
 use Rattle.bqn_syntax.specs.declared.token.Token.{Token}
 use Rattle.bqn_syntax.specs.Tokens.{Trouble, refused_at}
 use Rattle.bqn_token.specs.declared.error.TokenError.{TokenError}
@@ -40,3 +41,8 @@ without_last_return (c ∷ d ∷ cs) = c ∷ without_last_return (d ∷ cs)
 -- what is kept of a text after one more character
 abbrev pub with_character : List ℕ → ℕ → List ℕ
 with_character kept c = (if c == 10 then without_last_return kept else kept) ++ c ∷ []
+
+-- the token of a piece at a place, if it has one
+abbrev pub token_at : Option Kind → Place → List Token
+token_at None place = []
+token_at (Some kind) place = record { kind = kind; place = place } ∷ []

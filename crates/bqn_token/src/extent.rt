@@ -1,6 +1,7 @@
-ghost use Rattle.std.specs.Prelude.{◌≡◌};
+ghost use Rattle.std.specs.Prelude.{◌≡◌, ◌||◌};
 ghost use Rattle.bqn_syntax.specs.Table.{first_state, is_digit, is_final, is_letter, is_name_start, is_word, next, within_word};
 ghost use Rattle.bqn_syntax.specs.Cut.{longest};
+ghost use Rattle.bqn_token.specs.Runs.{line_extent, word_extent};
 ghost use Rattle.bqn_syntax.specs.declared.progress.Progress.TheVariants.{Start};
 
 use crate::single::is_single;
@@ -17,6 +18,12 @@ pub(crate) fn is_a_letter(c: char) -> bool
     ensures { result ≡ is_letter c }
 {
     c.is_ascii_lowercase() || c.is_ascii_uppercase()
+}
+
+pub(crate) fn is_a_letter_or_digit(c: char) -> bool
+    ensures { result ≡ (is_letter c || is_digit c) }
+{
+    is_a_letter(c) || is_a_digit(c)
 }
 
 pub(crate) fn may_start_name(c: char) -> bool
@@ -94,9 +101,9 @@ fn may_end(progress: Progress) -> bool
     }
 }
 
-/// How many characters the longest piece in front has, or none where no piece stands there.
+/// How many characters the longest piece in front has, character by character.
 #[tactic(auto, using(crate::proofs::Scan::scan_laws))]
-pub(crate) fn longest_piece(text: &[char]) -> Option<usize>
+fn piece_by_characters(text: &[char]) -> Option<usize>
     ensures { result ≡ longest Start text.now }
 {
     let mut progress = Progress::Start;
@@ -111,4 +118,48 @@ pub(crate) fn longest_piece(text: &[char]) -> Option<usize>
         }
     }
     best
+}
+
+/// How many characters stand before the first newline.
+#[tactic(auto, using(crate::proofs::Runs::line_laws))]
+fn line_length(text: &[char]) -> usize
+    ensures { result ≡ line_extent text.now }
+{
+    'line: for (i, c) in text.iter().enumerate() {
+        if *c == '\n' {
+            return i;
+        }
+    }
+    text.len()
+}
+
+/// How many characters in front may stand in a word, or none where a dot stands behind them.
+#[tactic(auto, using(crate::proofs::Runs::word_laws))]
+fn word_length(text: &[char]) -> Option<usize>
+    ensures { result ≡ word_extent text.now }
+{
+    'word: for (i, c) in text.iter().enumerate() {
+        if may_stand_in_word(*c) {
+            continue;
+        }
+        if *c == '.' {
+            return None;
+        }
+        return Some(i);
+    }
+    Some(text.len())
+}
+
+/// How many characters the longest piece in front has, or none where no piece stands there.
+#[tactic(auto, using(crate::proofs::Runs::piece_laws))]
+pub(crate) fn longest_piece(text: &[char]) -> Option<usize>
+    ensures { result ≡ longest Start text.now }
+{
+    if let Some('#') = text.first().copied() {
+        return Some(line_length(text));
+    }
+    match word_length(text) {
+        Some(count) if count > 0 => Some(count),
+        _ => piece_by_characters(text),
+    }
 }

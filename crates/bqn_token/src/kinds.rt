@@ -1,18 +1,17 @@
-ghost use Rattle.std.specs.Prelude.{◌≡◌, IfOk, IsTrue};
-ghost use Rattle.bqn_base.specs.Literal.{literal, unquoted};
-ghost use Rattle.bqn_syntax.specs.Table.{blanks, is_one_of, is_piece, is_piece_from};
-ghost use Rattle.bqn_syntax.specs.Tokens.{all_but_last, kind_of, name_kind, no_piece, number_kind, quoted, refused_at, single_kind};
+ghost use Rattle.std.specs.Prelude.{◌≡◌, IfOk, IfSome, IsTrue};
+ghost use Rattle.bqn_base.specs.Literal.{Number, literal, unquoted};
+ghost use Rattle.bqn_syntax.specs.Table.{is_piece, is_piece_from};
+ghost use Rattle.bqn_syntax.specs.Tokens.{all_but_last, kind_of, name_kind, no_piece, number_kind, quoted, refused_at};
 ghost use Rattle.bqn_syntax.specs.declared.progress.Progress.TheVariants.{Inside};
 ghost use Rattle.bqn_syntax.specs.declared.token.Kind.TheVariants as kind;
 ghost use Rattle.bqn_token.specs.Tokenizing.{Gives, placed};
 
 use crate::error::TokenError;
-use crate::extent::{may_stand_in_word, may_start_name};
-use crate::single::primitive_code;
-use crate::words::{kind_of_system_word, kind_of_word, special};
+use crate::extent::{is_a_digit, may_start_name};
+use crate::single::{kind_of_alone, single};
+use crate::words::{is_plainly_named, kind_of_system_word, kind_of_word, plain_kind};
 use bqn_base::{Memory, Place, Refusal};
 use bqn_literal::{NumberError, number, string};
-use bqn_roles::role;
 use bqn_syntax::Kind;
 use std::alloc::Global;
 
@@ -25,12 +24,6 @@ pub(crate) fn missing_piece(c: char, place: Place) -> Refusal
         '•' => Refusal::BadName(place),
         _ => Refusal::BadChar(place),
     }
-}
-
-fn is_blank(c: char) -> bool
-    ensures { result ≡ is_one_of blanks c }
-{
-    c == ' ' || c == '\t'
 }
 
 /// The character between single quotes, which stands behind the first of them.
@@ -72,11 +65,25 @@ fn named(kind: Option<Kind>, place: Place) -> Result<Option<Kind>, TokenError>
     }
 }
 
+/// The number that a word of one digit denotes.
+fn one_digit(word: &[char]) -> Option<i64>
+    ensures { IfSome result (λ digit. literal word.now ≡ Number digit) }
+{
+    let (first, behind) = word.split_first()?;
+    if !behind.is_empty() || !is_a_digit(*first) {
+        return None;
+    }
+    Some(i64::from(*first as u32 - '0' as u32))
+}
+
 /// The number that a word denotes.
 #[tactic(auto, using(crate::proofs::Meanings::number_laws))]
 fn numeric(word: &[char], place: Place) -> Result<Option<Kind>, TokenError>
     ensures { Gives (placed place (number_kind (literal word.now))) result }
 {
+    if let Some(digit) = one_digit(word) {
+        return Ok(Some(Kind::Number(digit)));
+    }
     match number(word) {
         Ok(number) => Ok(Some(Kind::Number(number))),
         Err(NumberError::Bad) => Err(TokenError::Refused(Refusal::BadNumber(place))),
@@ -84,33 +91,8 @@ fn numeric(word: &[char], place: Place) -> Result<Option<Kind>, TokenError>
     }
 }
 
-/// What a character that is a piece by itself stands for.
-#[inline(always)]
-fn single(c: char) -> Kind
-    ensures { result ≡ single_kind c }
-{
-    if c == '@' {
-        return Kind::Char('\0');
-    }
-    if let Some(name) = special(c) {
-        return Kind::Special(name, role(&[c]));
-    }
-    match primitive_code(c) {
-        Some(code) => Kind::Given(code),
-        None => Kind::Punct(c),
-    }
-}
-
 /// What a piece at a place stands for: nothing for a blank or a comment, or a token.
-///
-/// # Errors
-///
-/// The refusal of a bad word, and want of memory.
-pub(crate) fn kind_at(
-    alloc: Global,
-    piece: &[char],
-    place: Place,
-) -> Result<Option<Kind>, TokenError>
+fn any_kind_at(alloc: Global, piece: &[char], place: Place) -> Result<Option<Kind>, TokenError>
     requires { IsTrue (is_piece piece.now) }
     ensures { Gives (placed place (kind_of piece.now)) result }
 {
@@ -118,7 +100,10 @@ pub(crate) fn kind_at(
         return Ok(None);
     };
     let first = *first;
-    if is_blank(first) || first == '#' {
+    if let Some(alone) = single(first) {
+        return Ok(kind_of_alone(alone, first));
+    }
+    if first == '#' {
         return Ok(None);
     }
     if first == '\'' {
@@ -136,8 +121,26 @@ pub(crate) fn kind_at(
         let kind = kind_of_word(alloc, piece)?;
         return named(kind, place);
     }
-    if may_stand_in_word(first) {
-        return numeric(piece, place);
+    numeric(piece, place)
+}
+
+/// What a piece at a place stands for: nothing for a blank or a comment, or a token.
+///
+/// # Errors
+///
+/// The refusal of a bad word, and want of memory.
+#[inline(always)]
+pub(crate) fn kind_at(
+    alloc: Global,
+    piece: &[char],
+    place: Place,
+) -> Result<Option<Kind>, TokenError>
+    requires { IsTrue (is_piece piece.now) }
+    ensures { Gives (placed place (kind_of piece.now)) result }
+{
+    if is_plainly_named(piece) {
+        let kind = plain_kind(alloc, piece)?;
+        return Ok(Some(kind));
     }
-    Ok(Some(single(first)))
+    any_kind_at(alloc, piece, place)
 }

@@ -6,7 +6,9 @@ use bqn_base::Place;
 /// The place of the first character of a text.
 pub(crate) const FIRST: Place = Place { line: 1, column: 1 };
 
-fn place_past(c: char, place: Place) -> Place
+/// The place behind a character at this place.
+#[inline(always)]
+pub(crate) fn place_past(c: char, place: Place) -> Place
     requires line { place.line + 1 < 2 ^ 32 }
     requires column { place.column + 1 < 2 ^ 32 }
     ensures { result ≡ past c place }

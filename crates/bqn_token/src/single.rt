@@ -1,6 +1,22 @@
 ghost use Rattle.std.specs.Prelude.{◌≡◌, position, ◌==◌};
 ghost use Rattle.bqn_syntax.specs.Table.{is_one_of, singles};
-ghost use Rattle.bqn_token.specs.Singles.{is_mark, place_between, primitives};
+ghost use Rattle.bqn_token.specs.Alones.{mark_of, shown_alone, single_of};
+ghost use Rattle.bqn_token.specs.Singles.{place_between, primitives};
+
+use crate::extent::is_a_letter_or_digit;
+use bqn_base::Role;
+use bqn_syntax::{Kind, Special};
+
+/// What a character that is a piece by itself stands for.
+#[derive(Clone, Copy)]
+pub(crate) enum Alone {
+    Blank,
+    /// The character with code 0.
+    Zero,
+    Special(Special, Role),
+    Given(u8),
+    Punct,
+}
 
 /// The code of a primitive of ASCII, if the character is one.
 fn ascii_code(c: char) -> Option<u8>
@@ -104,7 +120,7 @@ fn late_code(c: char) -> Option<u8>
 
 /// The code of a primitive, if the character is one: its place among them.
 #[inline(always)]
-pub(crate) fn primitive_code(c: char) -> Option<u8>
+fn primitive_code(c: char) -> Option<u8>
     ensures { result ≡ position (λ d. d == c) primitives }
 {
     match c as u32 {
@@ -115,14 +131,15 @@ pub(crate) fn primitive_code(c: char) -> Option<u8>
     }
 }
 
-/// Whether this is a blank, punctuation, `@` or a special name of one character.
-fn is_a_mark(c: char) -> bool
-    ensures { result ≡ is_mark c }
+/// What a blank, punctuation, `@` or a special name of one character stands for.
+#[inline(always)]
+fn mark(c: char) -> Option<Alone>
+    ensures { result ≡ mark_of c }
 {
     match c {
-        ' '
-        | '\t'
-        | '\n'
+        ' ' | '\t' => Some(Alone::Blank),
+        '@' => Some(Alone::Zero),
+        '\n'
         | '←'
         | '⇐'
         | '↩'
@@ -141,25 +158,64 @@ fn is_a_mark(c: char) -> bool
         | '.'
         | ';'
         | ':'
-        | '?'
-        | '@'
-        | '𝕨'
-        | '𝕩'
-        | '𝕤'
-        | '𝕗'
-        | '𝕘'
-        | '𝕎'
-        | '𝕏'
-        | '𝕊'
-        | '𝔽'
-        | '𝔾' => true,
-        _ => false,
+        | '?' => Some(Alone::Punct),
+        '𝕨' => Some(Alone::Special(Special::Left, Role::Subject)),
+        '𝕎' => Some(Alone::Special(Special::Left, Role::Function)),
+        '𝕩' => Some(Alone::Special(Special::Right, Role::Subject)),
+        '𝕏' => Some(Alone::Special(Special::Right, Role::Function)),
+        '𝕤' => Some(Alone::Special(Special::Own, Role::Subject)),
+        '𝕊' => Some(Alone::Special(Special::Own, Role::Function)),
+        '𝕗' => Some(Alone::Special(Special::LeftOperand, Role::Subject)),
+        '𝔽' => Some(Alone::Special(Special::LeftOperand, Role::Function)),
+        '𝕘' => Some(Alone::Special(Special::RightOperand, Role::Subject)),
+        '𝔾' => Some(Alone::Special(Special::RightOperand, Role::Function)),
+        _ => None,
+    }
+}
+
+/// What a character that is neither a letter nor a digit stands for, if it is a piece by itself.
+#[inline(always)]
+fn sign(c: char) -> Option<Alone>
+    ensures { result ≡ single_of c }
+{
+    match mark(c) {
+        Some(mark) => Some(mark),
+        None => primitive_code(c).map(|code| Alone::Given(code)),
+    }
+}
+
+/// What a character stands for, or none where it is no piece by itself.
+#[inline(always)]
+#[tactic(auto, using(crate::proofs::Alones::sign_laws))]
+pub(crate) fn single(c: char) -> Option<Alone>
+    ensures { result ≡ single_of c }
+{
+    if is_a_letter_or_digit(c) {
+        None
+    } else {
+        sign(c)
     }
 }
 
 /// Whether this is a piece by itself.
+#[inline(never)]
+#[tactic(auto, using(crate::proofs::Alones::some_laws))]
 pub(crate) fn is_single(c: char) -> bool
     ensures { result ≡ is_one_of singles c }
 {
-    is_a_mark(c) || primitive_code(c).is_some()
+    single(c).is_some()
+}
+
+/// The token of such a character: none for a blank.
+#[inline(always)]
+pub(crate) fn kind_of_alone(alone: Alone, c: char) -> Option<Kind>
+    ensures { result ≡ shown_alone alone c }
+{
+    match alone {
+        Alone::Blank => None,
+        Alone::Zero => Some(Kind::Char('\0')),
+        Alone::Special(name, role) => Some(Kind::Special(name, role)),
+        Alone::Given(code) => Some(Kind::Given(code)),
+        Alone::Punct => Some(Kind::Punct(c)),
+    }
 }

@@ -33,15 +33,34 @@ fn keep(kept: &mut Vec<char>, c: char) -> Result<(), AllocError>
     Ok(())
 }
 
+/// These characters without each carriage return directly before a line feed.
+#[tactic(auto, using(crate::proofs::Returns::return_laws))]
+fn characters_without_returns(alloc: Global, text: &[char]) -> Result<Vec<char>, AllocError>
+    ensures { IfOk result (λ kept. kept.items ≡ without_returns text.now) }
+{
+    let mut kept = Vec::with_capacity(alloc, text.len())?;
+    'characters: for c in text {
+        keep(&mut kept, *c)?;
+    }
+    Ok(kept)
+}
+
+fn all_characters(alloc: Global, text: &str) -> Result<Vec<char>, AllocError>
+    ensures { IfOk result (λ all. all.items ≡ chars text.now) }
+{
+    text.chars().collect(alloc)
+}
+
 /// The characters without each carriage return directly before a line feed.
+#[tactic(auto, using(crate::proofs::Returns::return_laws))]
 fn characters(alloc: Global, text: &str) -> Result<Vec<char>, AllocError>
     ensures { IfOk result (λ kept. kept.items ≡ without_returns (chars text.now)) }
 {
-    let mut kept = Vec::with_capacity(alloc, text.len())?;
-    'characters: for c in text.chars() {
-        keep(&mut kept, c)?;
+    let all = all_characters(alloc, text)?;
+    if all.contains(&'\r') {
+        return characters_without_returns(alloc, all.as_slice());
     }
-    Ok(kept)
+    Ok(all)
 }
 
 /// The text of a source.

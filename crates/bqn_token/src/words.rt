@@ -1,10 +1,13 @@
-ghost use Rattle.std.specs.Prelude.{◌≡◌, IfOk, IsTrue};
+ghost use Rattle.std.specs.Prelude.{◌≡◌, IfOk, IsTrue, Ok, Some};
 ghost use Rattle.std.specs.List.{list_all};
+ghost use Rattle.bqn_base.specs.Characters.{is_lower};
 ghost use Rattle.bqn_base.specs.Names.{is_name_character as is_plain};
-ghost use Rattle.bqn_syntax.specs.Words.{begins_with_letter, is_modifier_word, is_name_character, is_name_word, lower_case, name_of, special_of, system_kind, word_kind};
+ghost use Rattle.bqn_syntax.specs.Tokens.{kind_of};
+ghost use Rattle.bqn_syntax.specs.Words.{begins_with_letter, is_modifier_word, is_name_character, is_name_word, lower_case, name_of, system_kind, word_kind};
+ghost use Rattle.bqn_token.specs.Runs.{is_plain_name};
 
 use crate::extent::{is_a_digit, is_a_letter};
-use bqn_base::{Memory, Name};
+use bqn_base::{Memory, Name, Role};
 use bqn_roles::role;
 use bqn_syntax::{Kind, Special};
 use std::alloc::{AllocError, Global};
@@ -14,20 +17,6 @@ const MODIFIER: [char; 1] = ['𝕣'];
 const ONE_SIDED: [char; 2] = ['_', '𝕣'];
 
 const TWO_SIDED: [char; 3] = ['_', '𝕣', '_'];
-
-/// The special name of one character, if it is one.
-pub(crate) fn special(c: char) -> Option<Special>
-    ensures { result ≡ special_of c }
-{
-    match c {
-        '𝕨' | '𝕎' => Some(Special::Left),
-        '𝕩' | '𝕏' => Some(Special::Right),
-        '𝕤' | '𝕊' => Some(Special::Own),
-        '𝕗' | '𝔽' => Some(Special::LeftOperand),
-        '𝕘' | '𝔾' => Some(Special::RightOperand),
-        _ => None,
-    }
-}
 
 fn may_stand_in_name(c: char) -> bool
     ensures { result ≡ is_name_character c }
@@ -60,11 +49,42 @@ fn is_a_name_word(word: &[char]) -> bool
     begins_with_a_letter(word) && may_all_stand_in_name(word)
 }
 
+fn is_a_small_letter(c: char) -> bool
+    ensures { result ≡ is_lower c }
+{
+    c.is_ascii_lowercase()
+}
+
 fn is_spelled_plainly(word: &[char]) -> bool
     ensures { result ≡ list_all is_plain word.now }
 {
     word.iter()
         .all(|c| c.is_ascii_lowercase() || is_a_digit(*c))
+}
+
+/// Whether the word is a lower-case letter and then such letters and digits.
+#[tactic(auto, using(crate::proofs::Plain::named_laws))]
+pub(crate) fn is_plainly_named(word: &[char]) -> bool
+    ensures { result ≡ is_plain_name word.now }
+{
+    let Some((first, _)) = word.split_first() else {
+        return false;
+    };
+    if !is_a_small_letter(*first) {
+        return false;
+    }
+    is_spelled_plainly(word)
+}
+
+/// What such a word stands for.
+#[inline(always)]
+#[tactic(auto, using(crate::proofs::Plain::kind_laws))]
+pub(crate) fn plain_kind(alloc: Global, word: &[char]) -> Result<Kind, Memory>
+    requires { IsTrue (is_plain_name word.now) }
+    ensures { IfOk result (λ kind. kind_of word.now ≡ Ok (Some kind)) }
+{
+    let name = Name::new(alloc, word)?;
+    Ok(Kind::Word(name, Role::Subject))
 }
 
 fn lower(c: char) -> char
@@ -83,19 +103,31 @@ fn lower_letters(alloc: Global, word: &[char]) -> Result<Vec<char>, AllocError>
         .collect(alloc)
 }
 
+/// The name that a word spells with capitals or underscores.
+#[inline(never)]
+#[tactic(auto, using(crate::proofs::Names::name_laws))]
+fn respelled(alloc: Global, word: &[char]) -> Result<Name, Memory>
+    requires { IsTrue (list_all is_name_character word.now) }
+    ensures { IfOk result (λ name. name ≡ name_of word.now) }
+{
+    let Ok(letters) = lower_letters(alloc, word) else {
+        return Err(Memory);
+    };
+    Name::new(alloc, letters.as_slice())
+}
+
 /// The name that a word spells: without case and underscores.
+#[inline(always)]
 #[tactic(auto, using(crate::proofs::Names::name_laws))]
 fn name(alloc: Global, word: &[char]) -> Result<Name, Memory>
     requires { IsTrue (list_all is_name_character word.now) }
     ensures { IfOk result (λ name. name ≡ name_of word.now) }
 {
     if is_spelled_plainly(word) {
-        return Name::new(alloc, word);
+        Name::new(alloc, word)
+    } else {
+        respelled(alloc, word)
     }
-    let Ok(letters) = lower_letters(alloc, word) else {
-        return Err(Memory);
-    };
-    Name::new(alloc, letters.as_slice())
 }
 
 /// Whether the word names the modifier itself.
@@ -106,17 +138,18 @@ fn is_a_modifier_word(word: &[char]) -> bool
 }
 
 /// What a word stands for, or none where it is no name.
+#[tactic(auto, using(crate::proofs::Names::word_laws))]
 pub(crate) fn kind_of_word(alloc: Global, word: &[char]) -> Result<Option<Kind>, Memory>
     ensures { IfOk result (λ kind. kind ≡ word_kind word.now) }
 {
+    if is_a_name_word(word) {
+        let name = name(alloc, word)?;
+        return Ok(Some(Kind::Word(name, role(word))));
+    }
     if is_a_modifier_word(word) {
         return Ok(Some(Kind::Special(Special::Modifier, role(word))));
     }
-    if !is_a_name_word(word) {
-        return Ok(None);
-    }
-    let name = name(alloc, word)?;
-    Ok(Some(Kind::Word(name, role(word))))
+    Ok(None)
 }
 
 /// What a word behind `•` stands for, or none where it is no name.
