@@ -3,17 +3,6 @@ ghost use Rattle.std.specs.Prelude.{◌≡◌, ◌++◌, [], ◌∷◌, IfOk, On
 use bqn_base::Memory;
 use std::alloc::Global;
 
-/// The list with one more element at its end.
-pub fn pushed<T: Drop>(list: Vec<T>, last: T) -> Result<Vec<T>, Memory>
-    ensures { IfOk result (λ all. all.items ≡ list.items ++ last ∷ []) }
-{
-    let mut list = list;
-    match list.push(last) {
-        Ok(()) => Ok(list),
-        Err(_) => Err(Memory),
-    }
-}
-
 /// One more at the end.
 #[inline(always)]
 pub fn push<T: Drop>(all: &mut Vec<T>, one: T) -> Result<(), Memory>
