@@ -4,6 +4,7 @@ ghost use Rattle.bqn_base.specs.Names.{is_name_character};
 
 use std::alloc::Global;
 use std::marker::Model;
+use std::rc::RcSlice;
 
 /// Want of memory.
 #[derive(Clone, Copy, Debug, PartialEq, Eq)]
@@ -12,18 +13,19 @@ pub struct Memory;
 /// A list of characters.
 #[derive(Debug, Drop)]
 pub struct Text {
-    chars: Vec<char>,
+    chars: RcSlice<char>,
 }
 
 impl Model for Text {
     ghost use Rattle.std.specs.Prelude.{List, ℕ};
     ghost use Rattle.std.specs.Coded.{coded_list, coded_ℕ};
+    ghost use Rattle.std.specs.Rc.{rc_slice_items};
 
     ghost Value = { List ℕ };
 
     ghost coded = { coded_list coded_ℕ };
 
-    ghost view = { λ text. text.chars.items };
+    ghost view = { λ text. rc_slice_items text.chars };
 }
 
 impl Text {
@@ -31,7 +33,17 @@ impl Text {
     pub fn new(alloc: Global, chars: &[char]) -> Result<Text, Memory>
         ensures { IfOk result (λ text. text ≡ chars.now) }
     {
-        match Vec::from_slice(alloc, chars) {
+        match RcSlice::from_slice(alloc, chars) {
+            Ok(chars) => Ok(Text { chars }),
+            Err(_) => Err(Memory),
+        }
+    }
+
+    /// The same text, which shares the characters.
+    pub fn share(&self) -> Result<Text, Memory>
+        ensures { IfOk result (λ text. text ≡ self.now) }
+    {
+        match self.chars.clone() {
             Ok(chars) => Ok(Text { chars }),
             Err(_) => Err(Memory),
         }
@@ -48,12 +60,13 @@ impl Text {
 /// The spelling of a name: a list of lower-case letters and digits.
 #[derive(Debug, Drop)]
 pub struct Name {
-    chars: Vec<char>,
+    chars: RcSlice<char>,
 }
 
 impl Model for Name {
     ghost use Rattle.std.specs.Prelude.{List, ℕ, IsTrue};
     ghost use Rattle.std.specs.Coded.{coded_list, coded_ℕ};
+    ghost use Rattle.std.specs.Rc.{rc_slice_items};
     ghost use Rattle.std.specs.List.{list_all};
     ghost use Rattle.bqn_base.specs.Names.{is_name_character};
 
@@ -61,9 +74,9 @@ impl Model for Name {
 
     ghost coded = { coded_list coded_ℕ };
 
-    ghost view = { λ name. name.chars.items };
+    ghost view = { λ name. rc_slice_items name.chars };
 
-    ghost invariant = { λ name. IsTrue (list_all is_name_character name.chars.items) };
+    ghost invariant = { λ name. IsTrue (list_all is_name_character (rc_slice_items name.chars)) };
 }
 
 impl Name {
@@ -72,7 +85,17 @@ impl Name {
         requires { IsTrue (list_all is_name_character chars.now) }
         ensures { IfOk result (λ name. name ≡ chars.now) }
     {
-        match Vec::from_slice(alloc, chars) {
+        let Ok(chars) = RcSlice::from_slice(alloc, chars) else {
+            return Err(Memory);
+        };
+        Ok(Name { chars })
+    }
+
+    /// The same name, which shares the characters.
+    pub fn share(&self) -> Result<Name, Memory>
+        ensures { IfOk result (λ name. name ≡ self.now) }
+    {
+        match self.chars.clone() {
             Ok(chars) => Ok(Name { chars }),
             Err(_) => Err(Memory),
         }

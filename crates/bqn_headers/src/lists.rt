@@ -109,7 +109,7 @@ impl Lists {
         ensures { Moves (header_step (sort_of token.now.kind) (lists_shown self.old) token.now) (lists_shown self.new) result }
     {
         match token.kind.sort() {
-            Sort::Stands => self.push(Item::Standing(Element::Leaf(token.copy(alloc)?))),
+            Sort::Stands => self.push(Item::Standing(Element::Leaf(token.copy()?))),
             Sort::Skips => self.push(Item::Standing(Element::Skip(token.place))),
             Sort::Joins => self.push(Item::Joining),
             Sort::Opens(Bracket::Angle) => self.open_list(alloc),

@@ -1,5 +1,5 @@
 -- Terms that are bound as they come give the units of the piece.
-use Rattle.std.proofs.Common.{◌≡◌, Bool, true, false, List, [], ◌∷◌, ◌++◌, reverse, Option, Some, None, refl, sym, ap, ◌∙◌}
+use Rattle.std.proofs.Common.{◌≡◌, Bool, true, false, List, [], ◌∷◌, ◌++◌, length, reverse, Option, Some, None, refl, sym, ap, ◌∙◌, arith}
 use Rattle.std.proofs.lemmas.List.{reverse-append, reverse-reverse}
 use Rattle.std.specs.Option.{option_map, option_and_then}
 use Rattle.bqn_syntax.specs.declared.token.Token.{Token}
@@ -12,7 +12,9 @@ use Rattle.bqn_syntax.specs.Plain.{Part, Leaf, Elements, Merge, Paren, Block, Fi
 use Rattle.bqn_syntax.specs.Sorts.{tag, same_tag, is_word}
 use Rattle.bqn_syntax.specs.Units.{Unit', Row, row, Free, bind, binds, bound}
 use Rattle.bqn_parse.specs.Fused as fused
-use Rattle.bqn_parse.specs.Fused.{Piece, piece, with_term, next_at, drawn, put, ended, units_with}
+use Rattle.bqn_parse.specs.Fused.{Piece, piece, with_term, next_at, drawn, put, ended, units_if, units_with}
+use Rattle.bqn_parse.specs.Following.{behind_of}
+use Rattle.bqn_parse.specs.declared.terms.Behind.TheVariants.{Draws, Else}
 use Rattle.bqn_parse.specs.declared.item.Item.{Item as CodeItem}
 use Rattle.bqn_parse.specs.Views.{item_of, items_of, when}
 
@@ -174,6 +176,58 @@ when-at false reading next given e = ap (λ (o : Option Row). next_at reading o)
 
 pub ruleset draw_laws = (when-at)
 
+-- An element that is bound at once.
+
+pub units_if-next : (fine : Bool) (next : Piece) (given : Option Piece) (items : List Item) → when fine next ≡ given → units_if fine next items ≡ option_and_then (λ (p : Piece). units_with p items) given
+units_if-next true next given items e = ap (λ (o : Option Piece). option_and_then (λ (p : Piece). units_with p items) o) e
+units_if-next false next given items e = ap (λ (o : Option Piece). option_and_then (λ (p : Piece). units_with p items) o) e
+
+units_if-row : (fine : Bool) (next : Row) (given : Option Row) (items : List Item) → when fine next ≡ given → units_if fine (piece next Between) items ≡ option_and_then (λ (n : Row). units_with (piece n Between) items) given
+units_if-row true next given items e = ap (λ (o : Option Row). option_and_then (λ (n : Row). units_with (piece n Between) items) o) e
+units_if-row false next given items e = ap (λ (o : Option Row). option_and_then (λ (n : Row). units_with (piece n Between) items) o) e
+
+-- where no joiner, dot or arrow follows, an element ends with the item in front of which it stands
+plain-now : (row : Row) (y : Element) (items : List Item) → behind_of items ≡ Else
+    → option_and_then (λ (n : Row). units_with (piece n Between) items) (with_term row (plain_term [] y)) ≡ units_with (piece row Between) (Standing y ∷ items)
+plain-now row y [] e = refl
+plain-now row y (Standing z ∷ items) e = at (with_term row (plain_term [] y))
+  where
+    at : (o : Option Row) → option_and_then (λ (n : Row). units_with (piece n Between) (Standing z ∷ items)) o ≡ option_and_then (λ (p : Piece). units_with p items) (next_at (At [] z) o)
+    at None = refl
+    at (Some n) = refl
+plain-now row y (Wrong ∷ items) e = sym (nothing (with_term row (plain_term [] y)))
+plain-now row y (Drawn a ∷ items) e = absurd (cc)
+plain-now row y (Joining ∷ items) e = absurd (cc)
+plain-now row y (Selecting ∷ items) e = absurd (cc)
+
+aimed-now : (row : Row) (y : Element) (items : List Item) → behind_of items ≡ Draws
+    → option_and_then (λ (n : Row). units_with (piece n Between) items) (with_term row (aimed_term [] y)) ≡ units_with (piece row Between) (Standing y ∷ items)
+aimed-now row y (Drawn a ∷ items) e = at (with_term row (aimed_term [] y))
+  where
+    at : (o : Option Row) → option_and_then (λ (n : Row). units_with (piece n Between) (Drawn a ∷ items)) o ≡ option_and_then (λ (p : Piece). units_with p items) (next_at Between (option_and_then (λ (next : Row). drawn a next) o))
+    at None = refl
+    at (Some n) = refl
+aimed-now row y [] e = absurd (cc)
+aimed-now row y (Standing z ∷ items) e = absurd (cc)
+aimed-now row y (Wrong ∷ items) e = absurd (cc)
+aimed-now row y (Joining ∷ items) e = absurd (cc)
+aimed-now row y (Selecting ∷ items) e = absurd (cc)
+
+pub units_if-plain : (fine : Bool) (row next : Row) (y : Element) (items : List Item) → behind_of items ≡ Else → when fine next ≡ with_term row (plain_term [] y) → units_if fine (piece next Between) items ≡ units_with (piece row Between) (Standing y ∷ items)
+units_if-plain fine row next y items e f = units_if-row fine next (with_term row (plain_term [] y)) items f ∙ plain-now row y items e
+
+pub units_if-aimed : (fine : Bool) (row next : Row) (y : Element) (items : List Item) → behind_of items ≡ Draws → when fine next ≡ with_term row (aimed_term [] y) → units_if fine (piece next Between) items ≡ units_with (piece row Between) (Standing y ∷ items)
+units_if-aimed fine row next y items e f = units_if-row fine next (with_term row (aimed_term [] y)) items f ∙ aimed-now row y items e
+
+pub units_if-drawn : (fine : Bool) (row next : Row) (a : Arrow) (items : List Item) → when fine next ≡ drawn a row → units_if fine (piece next Between) items ≡ units_with (piece row Between) (Drawn a ∷ items)
+units_if-drawn fine row next a items f = units_if-row fine next (drawn a row) items f ∙ at (drawn a row)
+  where
+    at : (o : Option Row) → option_and_then (λ (n : Row). units_with (piece n Between) items) o ≡ option_and_then (λ (p : Piece). units_with p items) (next_at Between o)
+    at None = refl
+    at (Some n) = refl
+
+pub ruleset eager_laws = (units_if-next, units_if-plain, units_if-aimed, units_if-drawn)
+
 -- The loop over the items, which are taken from the end of the list that is turned round.
 
 pub items-last : (left rest : List CodeItem) (item : CodeItem) → left ≡ rest ++ item ∷ [] → items_of (reverse left) ≡ item_of item ∷ items_of (reverse rest)
@@ -183,5 +237,13 @@ pub items-turned : (all left : List CodeItem) → left ≡ reverse all → items
 items-turned all left e = ap (λ (xs : List CodeItem). items_of (reverse xs)) e ∙ ap (λ (xs : List CodeItem). items_of xs) (reverse-reverse all)
 
 pub ruleset turn_laws = (items-last, items-turned)
+
+-- What stands behind an item.
+
+pub behind-none : (left : List CodeItem) → length left ≡ 0 → behind_of (items_of (reverse left)) ≡ Else
+behind-none [] e = refl
+behind-none (x ∷ left) e = absurd (omega arith)
+
+pub ruleset behind_laws = (behind-none, items-last)
 
 pub ruleset loop_laws = (units_with-more, units_with-stuck, units_with-all)

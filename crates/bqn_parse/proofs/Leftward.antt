@@ -1,38 +1,36 @@
 -- Units that are read leftward.
-use Rattle.std.proofs.Common.{◌≡◌, ◌+◌, List, [], ◌∷◌, ◌++◌, length, Option, Some, None, refl, ap, ◌∙◌}
+use Rattle.std.proofs.Common.{◌≡◌, List, [], ◌∷◌, ◌++◌, map, Option, Some, None, refl, sym, ap, ◌∙◌}
+use Rattle.std.proofs.lemmas.List.{map-append}
 use Rattle.bqn_syntax.specs.declared.tree.Step.{Step}
 use Rattle.bqn_syntax.specs.Expressions.{more}
 use Rattle.bqn_syntax.specs.Plain as plain
-use Rattle.bqn_syntax.specs.Plain.{Steps, no_steps, and_steps, step_of}
-use Rattle.bqn_syntax.specs.Units.{Unit'}
-use Rattle.bqn_parse.specs.declared.act.Act.{Act}
-use Rattle.bqn_parse.specs.declared.steps.Next.{Next}
-use Rattle.bqn_parse.specs.declared.steps.Next.TheVariants as next
-use Rattle.bqn_parse.specs.Leftward.{steps_shown, onto_steps, joined, left_of}
+use Rattle.bqn_syntax.specs.Plain.{Steps, no_steps, and_steps, step_of, steps}
+use Rattle.bqn_parse.specs.Leftward.{onto_steps, joined}
 
-pub left_of-act : (n : Next) (a : Act) (us : List Unit') → n ≡ next.Act a → left_of n us ≡ length us + 1
-left_of-act n a us e = ap (λ (m : Next). left_of m us) e
+-- one more step
+pub step_of-snoc : (all more : List Step) (s : Step) (shown : plain.Step) → more ≡ all ++ s ∷ [] → step_of s ≡ shown → map step_of more ≡ map step_of all ++ shown ∷ []
+step_of-snoc all more s shown e f = ap (λ (xs : List Step). map step_of xs) e ∙ map-append step_of all (s ∷ []) ∙ ap (λ (t : plain.Step). map step_of all ++ t ∷ []) f
 
-onto_steps-snoc : (all : List Step) (s : Step) (others : Steps) → onto_steps (all ++ s ∷ []) others ≡ onto_steps all (and_steps (step_of s) others)
+onto_steps-snoc : (all : List plain.Step) (s : plain.Step) (others : Steps) → onto_steps (all ++ s ∷ []) others ≡ onto_steps all (and_steps s others)
 onto_steps-snoc [] s others = refl
-onto_steps-snoc (t ∷ all) s others = ap (λ (behind : Steps). and_steps (step_of t) behind) (onto_steps-snoc all s others)
+onto_steps-snoc (t ∷ all) s others = ap (λ (behind : Steps). and_steps t behind) (onto_steps-snoc all s others)
 
-joined-one : (all : List Step) (s : Step) (others : Option Steps) → joined (all ++ s ∷ []) others ≡ joined all (more (step_of s) others)
-joined-one all s None = refl
-joined-one all s (Some others) = ap (λ (behind : Steps). Some behind) (onto_steps-snoc all s others)
+joined-snoc : (all : List plain.Step) (s : plain.Step) (others : Option Steps) → joined (all ++ s ∷ []) others ≡ joined all (more s others)
+joined-snoc all s None = refl
+joined-snoc all s (Some others) = ap (λ (behind : Steps). Some behind) (onto_steps-snoc all s others)
 
-pub joined-more : (all : List Step) (s : Step) (shown : plain.Step) (others : Option Steps) → step_of s ≡ shown → joined (all ++ s ∷ []) others ≡ joined all (more shown others)
-joined-more all s shown others e = joined-one all s others ∙ ap (λ (t : plain.Step). joined all (more t others)) e
+pub joined-more : (all now : List plain.Step) (s : plain.Step) (others : Option Steps) → now ≡ all ++ s ∷ [] → joined all (more s others) ≡ joined now others
+joined-more all now s others e = sym (joined-snoc all s others) ∙ ap (λ (ss : List plain.Step). joined ss others) (sym e)
 
 pub joined-nil : (others : Option Steps) → joined [] others ≡ others
 joined-nil None = refl
 joined-nil (Some others) = refl
 
-onto_steps-end : (all : List Step) → onto_steps all no_steps ≡ steps_shown all
+onto_steps-end : (all : List plain.Step) → onto_steps all no_steps ≡ steps all
 onto_steps-end [] = refl
-onto_steps-end (s ∷ all) = ap (λ (behind : Steps). and_steps (step_of s) behind) (onto_steps-end all)
+onto_steps-end (s ∷ all) = ap (λ (behind : Steps). and_steps s behind) (onto_steps-end all)
 
-pub joined-end : (all : List Step) → joined all (Some no_steps) ≡ Some (steps_shown all)
+pub joined-end : (all : List plain.Step) → joined all (Some no_steps) ≡ Some (steps all)
 joined-end all = ap (λ (behind : Steps). Some behind) (onto_steps-end all)
 
-pub ruleset step_laws = (joined-more, joined-nil, joined-end, left_of-act)
+pub ruleset step_laws = (step_of-snoc, joined-more, joined-nil, joined-end)

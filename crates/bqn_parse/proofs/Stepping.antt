@@ -1,5 +1,5 @@
 -- One token of a walk.
-use Rattle.std.proofs.Common.{◌≡◌, ◌<◌, ◌≤◌, ◌-◌, ℕ, suc, Bool, true, List, [], ◌∷◌, ◌++◌, Some, Result, Ok, Err, length, drop, take, map, reverse, refl, ap, ◌∙◌, arith, length-drop}
+use Rattle.std.proofs.Common.{◌≡◌, ◌<◌, ◌≤◌, ◌-◌, ℕ, suc, Bool, true, List, [], ◌∷◌, ◌++◌, Some, Result, Ok, Err, length, drop, take, map, reverse, refl, sym, ap, ◌∙◌, arith, rules, length-drop}
 use Rattle.std.proofs.lemmas.List.{reverse-append, length-reverse}
 use Rattle.bqn_base.specs.declared.place.Place.{Place}
 use Rattle.bqn_base.specs.declared.refusal.Refusal.{Refusal}
@@ -30,6 +30,16 @@ pub pushed-shown : (tokens : List Token) (outer : List Level) (around : Level) �
 pushed-shown tokens outer around = ap (map (level_shown tokens)) (reverse-append outer (around ∷ []))
 
 pub ruleset open_laws = (length-outer, pushed-shown)
+
+opened-few : (i : Inside) (at : List Token) (place : Place) (so : parsing.Levels) → length so.outer < 128 → parsing.opened i at place so ≡ Ok (parsing.levels (parsing.fresh i place) (parsing.begun at so.level ∷ so.outer))
+opened-few i at place so few = search rules
+
+-- a new level stands in what it was opened in
+pub opened-shown : (i : Inside) (at : List Token) (place : Place) (so : parsing.Levels) (inner : parsing.Level) (around : List parsing.Level) → length so.outer < 128 → inner ≡ parsing.fresh i place → around ≡ parsing.begun at so.level ∷ so.outer → parsing.opened i at place so ≡ Ok (parsing.levels inner around)
+opened-shown i at place so inner around few inner_is around_is =
+    opened-few i at place so few
+    ∙ ap (λ (l : parsing.Level). Ok (parsing.levels l (parsing.begun at so.level ∷ so.outer))) (sym inner_is)
+    ∙ ap (λ (ls : List parsing.Level). Ok (parsing.levels inner ls)) (sym around_is)
 
 -- Marks that fit only in some levels.
 

@@ -76,3 +76,8 @@ ended row _ = None
 abbrev pub units_with : Piece → List Item → Option (List Unit')
 units_with so [] = ended so.row so.reading
 units_with so (item ∷ items) = option_and_then (λ next. units_with next items) (put so item)
+
+-- the same, if there is such a piece
+abbrev pub units_if : Bool → Piece → List Item → Option (List Unit')
+units_if true so items = units_with so items
+units_if false so items = None

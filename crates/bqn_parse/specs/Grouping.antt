@@ -1,17 +1,29 @@
 -- What the units so far stand for, while modifiers are bound.
-use Rattle.std.specs.Prelude.{map}
-use Rattle.bqn_syntax.specs.Plain.{use_of}
+use Rattle.std.specs.Prelude.{List, [], map}
+use Rattle.bqn_syntax.specs.Plain.{Part, Use, use_of}
 use Rattle.bqn_syntax.specs.Units as units
 use Rattle.bqn_parse.specs.declared.units.Binding.{Binding}
 use Rattle.bqn_parse.specs.declared.units.Binding.TheVariants as binding
 use Rattle.bqn_parse.specs.declared.units.Grouping.{Grouping}
+use Rattle.bqn_parse.specs.declared.draft.Function.{Function}
+use Rattle.bqn_parse.specs.declared.draft.Function.TheVariants as function
 use Rattle.bqn_parse.specs.Drafts.{draft_of}
 use Rattle.bqn_parse.specs.Views.{backward}
 
+-- the part that modifiers stand behind
+abbrev pub operand_shown : Function → Part
+operand_shown (function.Plain x) = draft_of x
+operand_shown (function.Modified m) = draft_of m.first
+
+-- the modifiers behind it
+abbrev pub uses_shown : Function → List Use
+uses_shown (function.Plain x) = []
+uses_shown (function.Modified m) = map use_of m.uses.items
+
 abbrev pub binding_shown : Binding → units.Binding
 binding_shown binding.Free = units.Free
-binding_shown (binding.Bound x us) = units.Bound (draft_of x) (map use_of us.items)
-binding_shown (binding.Wanting x us m) = units.Wanting (draft_of x) (map use_of us.items) (draft_of m)
+binding_shown (binding.Bound f) = units.Bound (operand_shown f) (uses_shown f)
+binding_shown (binding.Wanting f m) = units.Wanting (operand_shown f) (uses_shown f) (draft_of m)
 
 abbrev pub grouping_shown : Grouping → units.Row
 grouping_shown g = units.row (backward g.units.items) (binding_shown g.binding)

@@ -20,10 +20,10 @@ use std::alloc::Global;
 /// A header that tells as much of the class of its block: its own name, and whether it has an
 /// argument.
 #[tactic(auto, using(bqn_syntax::specs::Levels::levels))]
-fn brief_header(alloc: Global, header: &Header) -> Result<Header, Memory>
+fn brief_header(header: &Header) -> Result<Header, Memory>
     ensures { IfOk result (λ h. header_of h ≡ brief_header (header_of header.now)) }
 {
-    let own = header.own.copy(alloc)?;
+    let own = header.own.copy()?;
     let right = match header.right {
         None => None,
         Some(_) => Some(Pattern::Skip(header.own.place)),
@@ -39,12 +39,12 @@ fn brief_header(alloc: Global, header: &Header) -> Result<Header, Memory>
 
 /// What the class of a block asks of a body.
 #[tactic(auto, using(bqn_syntax::specs::Levels::levels))]
-fn marks(alloc: Global, body: &BodyTree) -> Result<BodyMarks, Memory>
+fn marks(body: &BodyTree) -> Result<BodyMarks, Memory>
     ensures { IfOk result (λ m. marks_shown m ≡ brief (classes.marks_of (body_of body.now))) }
 {
     let header = match &body.header {
         None => None,
-        Some(header) => Some(brief_header(alloc, header)?),
+        Some(header) => Some(brief_header(header)?),
     };
     let statements = body.statements.list();
     let seen = in_stmts(statements);
@@ -66,7 +66,7 @@ fn all_marks(alloc: Global, all: &[BodyTree]) -> Result<Vec<BodyMarks>, ParseErr
 {
     let mut so = Vec::with_capacity(alloc, all.len())?;
     for body in all {
-        so.push(marks(alloc, body)?)?;
+        so.push(marks(body)?)?;
     }
     Ok(so)
 }

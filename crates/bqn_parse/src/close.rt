@@ -9,11 +9,11 @@ ghost use Rattle.bqn_parse.specs.Walking.{level_shown, walk_shown, Made, Moves};
 
 use crate::blocks::block;
 use crate::draft::{Draft, boxed};
-use crate::ends::shrunk;
+use crate::ends::{push, shrunk};
 use crate::error::ParseError;
 use crate::item::{Element, Item};
 use crate::judge::end;
-use crate::level::{Level, Walk};
+use crate::level::{Level, Room, Walk};
 use bqn_base::{Place, Refusal, Row};
 use bqn_syntax::{Bracket, Expr, Inside, Pattern, Token};
 use std::alloc::Global;
@@ -119,7 +119,8 @@ fn hand<'t>(place: Place, walk: &mut Walk<'t>, element: Element<'t>) -> Result<(
     let Some(around) = walk.outer.pop() else {
         return Err(ParseError::Refused(Refusal::Bracket(place)));
     };
-    walk.level = around;
+    let Level { items, units, .. } = mem::replace(&mut walk.level, around);
+    push(&mut walk.spare, Room { items, units })?;
     walk.level.and_item(Item::Standing(element))?;
     Ok(())
 }

@@ -1,7 +1,8 @@
 ghost use Rattle.std.specs.Prelude.{◌≡◌, IfOk};
+ghost use Rattle.std.specs.Option.{option_map};
 ghost use Rattle.bqn_syntax.specs.Plain.{derived_of, part_of};
 ghost use Rattle.bqn_syntax.specs.Sorts.{tag};
-ghost use Rattle.bqn_parse.specs.Drafts.{draft_of, field_of, function_of};
+ghost use Rattle.bqn_parse.specs.Drafts.{draft_of, field_of, function_of, modified_of};
 
 use crate::ends::shrunk;
 use crate::tags::{tag_of_class, tag_of_expr, tag_of_last};
@@ -33,9 +34,16 @@ pub enum Draft<'t> {
 
 /// A part and the modifiers behind it, not in the tree yet.
 #[derive(Drop)]
-pub struct Function<'t> {
+pub struct Modified<'t> {
     pub first: Draft<'t>,
     pub uses: Vec<ModUse>,
+}
+
+/// A function, not in the tree yet: a part by itself, or one with its modifiers.
+#[derive(Drop)]
+pub enum Function<'t> {
+    Plain(Draft<'t>),
+    Modified(Boxed<Modified<'t>>),
 }
 
 /// A value on the heap.
@@ -68,7 +76,7 @@ pub fn part(alloc: Global, draft: Draft<'_>) -> Result<Part, Memory>
     ensures { IfOk result (λ part. part_of part ≡ draft_of draft.entry) }
 {
     match draft {
-        Draft::Token(token) => Ok(Part::Leaf(token.copy(alloc)?)),
+        Draft::Token(token) => Ok(Part::Leaf(token.copy()?)),
         Draft::Nothing(place) => Ok(Part::Nothing(place)),
         Draft::List(all) => Ok(Part::List(all.into_inner())),
         Draft::Merge(all) => Ok(Part::Merge(all.into_inner())),
@@ -79,17 +87,43 @@ pub fn part(alloc: Global, draft: Draft<'_>) -> Result<Part, Memory>
     }
 }
 
+/// A part, if there is one, for the tree.
+#[inline(always)]
+pub fn maybe_part(alloc: Global, draft: Option<Draft<'_>>) -> Result<Option<Part>, Memory>
+    ensures { IfOk result (λ x. option_map part_of x ≡ option_map draft_of draft.entry) }
+{
+    match draft {
+        Some(draft) => Ok(Some(part(alloc, draft)?)),
+        None => Ok(None),
+    }
+}
+
+/// The part with its modifiers, for the tree.
+#[tactic(auto, using(bqn_syntax::specs::Levels::levels))]
+#[inline(never)]
+fn derived_with(alloc: Global, modified: Modified<'_>) -> Result<Derived, Memory>
+    ensures { IfOk result (λ derived. derived_of derived ≡ modified_of modified.entry) }
+{
+    let Modified { first, uses } = modified;
+    Ok(Derived {
+        first: part(alloc, first)?,
+        uses: Row::new(shrunk(uses)),
+    })
+}
+
 /// The function, for the tree.
 #[tactic(auto, using(bqn_syntax::specs::Levels::levels))]
 #[inline(always)]
 pub fn derived(alloc: Global, function: Function<'_>) -> Result<Derived, Memory>
     ensures { IfOk result (λ derived. derived_of derived ≡ function_of function.entry) }
 {
-    let Function { first, uses } = function;
-    Ok(Derived {
-        first: part(alloc, first)?,
-        uses: Row::new(shrunk(uses)),
-    })
+    match function {
+        Function::Plain(first) => Ok(Derived {
+            first: part(alloc, first)?,
+            uses: Row::new(Vec::new(alloc)),
+        }),
+        Function::Modified(all) => derived_with(alloc, all.into_inner()),
+    }
 }
 
 /// The role of a part.

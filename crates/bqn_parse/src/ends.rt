@@ -1,17 +1,55 @@
-ghost use Rattle.std.specs.Prelude.{◌≡◌, ◌++◌, [], ◌∷◌, IfOk, OnOk};
+ghost use Rattle.std.specs.Prelude.{◌≡◌, ◌++◌, [], ◌∷◌, IfOk, OnOk, ◌<◌};
+ghost use Rattle.std.specs.Vec.{vec_capacity, vec_len};
 
 use bqn_base::Memory;
 use std::alloc::Global;
+
+/// Room for one more.
+#[inline(never)]
+fn grow<T>(all: &mut Vec<T>) -> Result<(), Memory>
+    ensures items { all.new.items ≡ all.old.items }
+    ensures room { OnOk result (vec_len all.new < vec_capacity all.new) }
+{
+    match all.reserve(1) {
+        Ok(()) => Ok(()),
+        Err(_) => Err(Memory),
+    }
+}
 
 /// One more at the end.
 #[inline(always)]
 pub fn push<T: Drop>(all: &mut Vec<T>, one: T) -> Result<(), Memory>
     ensures { OnOk result (all.new.items ≡ all.old.items ++ one ∷ []) }
 {
-    match all.push(one) {
+    if all.len() == all.capacity() {
+        grow(all)?;
+    }
+    all.push_reserved(one);
+    Ok(())
+}
+
+/// Room for as many more as there are, and at least for one.
+#[inline(never)]
+fn double<T>(all: &mut Vec<T>) -> Result<(), Memory>
+    ensures items { all.new.items ≡ all.old.items }
+    ensures room { OnOk result (vec_len all.new < vec_capacity all.new) }
+{
+    match all.reserve_exact(all.len().max(1)) {
         Ok(()) => Ok(()),
         Err(_) => Err(Memory),
     }
+}
+
+/// One more at the end of a list that is mostly short and is kept: its room doubles from one on.
+#[inline(always)]
+pub fn append<T: Drop>(all: &mut Vec<T>, one: T) -> Result<(), Memory>
+    ensures { OnOk result (all.new.items ≡ all.old.items ++ one ∷ []) }
+{
+    if all.len() == all.capacity() {
+        double(all)?;
+    }
+    all.push_reserved(one);
+    Ok(())
 }
 
 /// An empty list with room for so many elements.

@@ -1,47 +1,50 @@
-ghost use Rattle.std.specs.Prelude.{◌≡◌, IfOk, ◌∷◌};
+ghost use Rattle.std.specs.Prelude.{◌≡◌, IfOk, ◌∷◌, map};
 ghost use Rattle.std.specs.Option.{option_map};
 ghost use Rattle.bqn_syntax.specs.Expressions as expressions;
 ghost use Rattle.bqn_syntax.specs.Expressions.{steps_of};
 ghost use Rattle.bqn_syntax.specs.Plain as plain;
-ghost use Rattle.bqn_syntax.specs.Plain.{Eval, Export, expr_of, some, stmt_of};
+ghost use Rattle.bqn_syntax.specs.Plain.{Eval, Export, expr_of, some, step_of, stmt_of};
 ghost use Rattle.bqn_syntax.specs.Units as units;
 ghost use Rattle.bqn_syntax.specs.declared.tree.Arrow.TheVariants as arrows;
 ghost use Rattle.bqn_parse.specs.Drafts.{draft_of, function_of};
-ghost use Rattle.bqn_parse.specs.Leftward.{is_end, is_export, next_shown};
+ghost use Rattle.bqn_parse.specs.Leftward.{is_end, is_export, left_shown};
 ghost use Rattle.bqn_parse.specs.Views.{backward, unit_shown};
 
-use crate::act::maybe_part;
-use crate::draft::{Draft, Function, part, tag_of_draft};
+use crate::draft::{Draft, Function, maybe_part, part, tag_of_draft};
 use crate::named::exported;
 use crate::reading::take;
-use crate::steps::{Next, called, change, next_step, steps};
+use crate::steps::{Left, all_steps, called, change, room_for};
 use crate::targets::targets;
 use crate::train::train;
 use crate::unit::Unit;
-use bqn_base::Memory;
-use bqn_syntax::{Arrow, Expr, Stmt};
+use bqn_base::{Memory, Row};
+use bqn_syntax::{Arrow, Expr, Step, Stmt};
 use std::alloc::Global;
 
-/// The value with this last part, or none.
+/// The value with this last part, of which these steps have been read, or none.
 #[tactic(auto, using(bqn_syntax::specs::Levels::levels))]
+#[inline(always)]
 fn value<'t>(
     alloc: Global,
     last: Option<Draft<'t>>,
-    first: Next<'t>,
+    first: Left,
+    steps: Vec<Step>,
     left: &mut Vec<Unit<'t>>,
 ) -> Result<Option<Expr>, Memory>
-    ensures { IfOk result (λ e. option_map expr_of e ≡ expressions.value (plain.maybe_part (option_map draft_of last.entry)) (next_shown first.entry (backward left.old.items))) }
+    ensures { IfOk result (λ e. option_map expr_of e ≡ expressions.value (plain.maybe_part (option_map draft_of last.entry)) (left_shown first (map step_of steps.items) (backward left.old.items))) }
 {
-    match steps(alloc, first, left)? {
-        None => Ok(None),
-        Some(steps) => Ok(Some(Expr::Value {
-            last: maybe_part(alloc, last)?,
-            steps,
-        })),
+    let mut steps = steps;
+    if !all_steps(alloc, first, &mut steps, left)? {
+        return Ok(None);
     }
+    Ok(Some(Expr::Value {
+        last: maybe_part(alloc, last)?,
+        steps: Row::new(steps),
+    }))
 }
 
 /// The value with this last part, by what stands left of it, or none.
+#[tactic(auto, using(crate::proofs::Leftward::step_laws))]
 fn ends_in_part<'t>(
     alloc: Global,
     last: Draft<'t>,
@@ -49,11 +52,13 @@ fn ends_in_part<'t>(
 ) -> Result<Option<Expr>, Memory>
     ensures { IfOk result (λ e. option_map expr_of e ≡ expressions.value (some (draft_of last.entry)) (steps_of (backward left.old.items))) }
 {
-    let first = next_step(left)?;
-    value(alloc, Some(last), first, left)
+    let steps = room_for(alloc, left)?;
+    value(alloc, Some(last), Left::More, steps, left)
 }
 
 /// The value with this last part, to which a function is applied, or none.
+#[tactic(auto, using(crate::proofs::Leftward::step_laws))]
+#[inline(never)]
 fn ends_in_call<'t>(
     alloc: Global,
     last: Draft<'t>,
@@ -62,11 +67,26 @@ fn ends_in_call<'t>(
 ) -> Result<Option<Expr>, Memory>
     ensures { IfOk result (λ e. option_map expr_of e ≡ expressions.value (some (draft_of last.entry)) (steps_of (units.Function (function_of function.entry) ∷ backward left.old.items))) }
 {
-    let first = called(function, left)?;
-    value(alloc, Some(last), first, left)
+    let mut steps = room_for(alloc, left)?;
+    let first = called(alloc, &mut steps, function, left)?;
+    value(alloc, Some(last), first, steps, left)
 }
 
 /// The value whose last step changes a name by a function, or none.
+#[tactic(auto, using(crate::proofs::Leftward::step_laws))]
+fn changed_value<'t>(
+    alloc: Global,
+    function: Function<'t>,
+    left: &mut Vec<Unit<'t>>,
+) -> Result<Option<Expr>, Memory>
+    ensures { IfOk result (λ e. option_map expr_of e ≡ expressions.value plain.none (steps_of (units.Arrow' arrows.Change ∷ units.Function (function_of function.entry) ∷ backward left.old.items))) }
+{
+    let mut steps = room_for(alloc, left)?;
+    let first = change(alloc, &mut steps, function, left)?;
+    value(alloc, None, first, steps, left)
+}
+
+/// An expression that ends in a function and `↩`.
 #[tactic(auto, using(crate::proofs::Expressions::expression_laws))]
 fn ends_in_change_by<'t>(
     alloc: Global,
@@ -75,8 +95,7 @@ fn ends_in_change_by<'t>(
 ) -> Result<Option<Expr>, Memory>
     ensures { IfOk result (λ e. option_map expr_of e ≡ expressions.expression (units.Arrow' arrows.Change ∷ units.Function (function_of function.entry) ∷ backward left.old.items)) }
 {
-    let first = change(function, left);
-    value(alloc, None, first, left)
+    changed_value(alloc, function, left)
 }
 
 /// An expression that ends in `·`.
@@ -191,10 +210,10 @@ fn is_export(unit: &Unit<'_>) -> bool
 
 /// The export of a unit, or none.
 #[tactic(auto, using(bqn_syntax::specs::Levels::levels))]
-fn export_of(alloc: Global, unit: Unit<'_>) -> Result<Option<Stmt>, Memory>
+fn export_of(unit: Unit<'_>) -> Result<Option<Stmt>, Memory>
     ensures { IfOk result (λ s. option_map stmt_of s ≡ option_map (λ q. Export q) (expressions.exported (unit_shown unit.entry))) }
 {
-    match exported(alloc, unit)? {
+    match exported(unit)? {
         Some(pattern) => Ok(Some(Stmt::Export(pattern))),
         None => Ok(None),
     }
@@ -210,23 +229,23 @@ fn is_end(left: &[Unit<'_>]) -> bool
 
 /// The export of a unit that stands alone, or none.
 #[tactic(auto, using(crate::proofs::Expressions::export_laws))]
-fn export_at<'t>(alloc: Global, unit: Unit<'t>, left: &[Unit<'t>]) -> Result<Option<Stmt>, Memory>
+fn export_at<'t>(unit: Unit<'t>, left: &[Unit<'t>]) -> Result<Option<Stmt>, Memory>
     ensures { IfOk result (λ s. option_map stmt_of s ≡ expressions.statement (units.Arrow' arrows.Export ∷ unit_shown unit.entry ∷ backward left.now)) }
 {
     if is_end(left) {
-        export_of(alloc, unit)
+        export_of(unit)
     } else {
         Ok(None)
     }
 }
 
 /// The export of the one unit that is left, or none.
-fn export<'t>(alloc: Global, left: &mut Vec<Unit<'t>>) -> Result<Option<Stmt>, Memory>
+fn export<'t>(left: &mut Vec<Unit<'t>>) -> Result<Option<Stmt>, Memory>
     ensures { IfOk result (λ s. option_map stmt_of s ≡ expressions.statement (units.Arrow' arrows.Export ∷ backward left.old.items)) }
 {
     match take(left) {
         None => Ok(None),
-        Some(unit) => export_at(alloc, unit, left),
+        Some(unit) => export_at(unit, left),
     }
 }
 
@@ -255,7 +274,7 @@ fn statement_at<'t>(
     ensures { IfOk result (λ s. option_map stmt_of s ≡ expressions.statement (unit_shown unit.entry ∷ backward left.old.items)) }
 {
     if is_export(&unit) {
-        export(alloc, left)
+        export(left)
     } else {
         evaluated(alloc, unit, left)
     }

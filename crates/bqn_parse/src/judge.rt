@@ -44,7 +44,7 @@ fn judge_statement<'t>(
 ) -> Result<(), ParseError>
     ensures { Moves (parsing.well place parsing.and_statement (expressions.piece_statement (level_shown tokens.now level.old).items) (level_shown tokens.now level.old)) (level_shown tokens.now level.new) result }
 {
-    match piece_statement(alloc, &mut level.items)? {
+    match piece_statement(alloc, &mut level.items, &mut level.units)? {
         None => Err(formless(tokens, place, level)),
         Some(s) => level.and_statement(s),
     }
@@ -59,7 +59,7 @@ fn judge_predicate<'t>(
 ) -> Result<(), ParseError>
     ensures { Moves (parsing.well place parsing.and_statement (expressions.piece_predicate (level_shown tokens.now level.old).items) (level_shown tokens.now level.old)) (level_shown tokens.now level.new) result }
 {
-    match piece_predicate(alloc, &mut level.items)? {
+    match piece_predicate(alloc, &mut level.items, &mut level.units)? {
         None => Err(formless(tokens, place, level)),
         Some(s) => level.and_statement(s),
     }
@@ -74,7 +74,7 @@ fn judge_expression<'t>(
 ) -> Result<(), ParseError>
     ensures { Moves (parsing.well place parsing.and_expression (expressions.piece_expression (level_shown tokens.now level.old).items) (level_shown tokens.now level.old)) (level_shown tokens.now level.new) result }
 {
-    match piece_expression(alloc, &mut level.items)? {
+    match piece_expression(alloc, &mut level.items, &mut level.units)? {
         None => Err(formless(tokens, place, level)),
         Some(e) => level.and_expression(e),
     }

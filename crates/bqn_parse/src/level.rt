@@ -6,9 +6,10 @@ ghost use Rattle.bqn_syntax.specs.declared.token.Token.{Token};
 ghost use Rattle.bqn_parse.specs.Views.{item_of};
 ghost use Rattle.bqn_parse.specs.Walking.{level_shown, Moves};
 
-use crate::ends::shrunk;
+use crate::ends::{append, push, shrunk};
 use crate::error::ParseError;
 use crate::item::Item;
+use crate::unit::Unit;
 use bqn_base::{Memory, Place, Row};
 use bqn_syntax::{BodyTree, Expr, Header, Inside, Pattern, Stmt};
 use sqlite_items::Boxed;
@@ -16,7 +17,7 @@ use std::alloc::Global;
 use std::mem;
 
 /// What is open: what its pieces stand in, the place where it opened, the index of the first token
-/// of the piece that is being read and the items of that piece, and what has been read: expressions,
+/// of the piece that is being read and the items of that piece, room for its units, and what has been read: expressions,
 /// patterns, or the bodies of a block and of its last body the header and the statements.
 #[derive(Drop)]
 pub struct Level<'t> {
@@ -24,6 +25,7 @@ pub struct Level<'t> {
     pub opened: Place,
     pub first: Option<usize>,
     pub items: Vec<Item<'t>>,
+    pub units: Vec<Unit<'t>>,
     pub expressions: Vec<Expr>,
     pub targets: Vec<Pattern>,
     pub header: Option<Boxed<Header>>,
@@ -31,23 +33,45 @@ pub struct Level<'t> {
     pub done: Vec<BodyTree>,
 }
 
-/// The innermost level, and those around it, the innermost last.
+/// Room for the items and the units of a piece.
+#[derive(Drop)]
+pub struct Room<'t> {
+    pub items: Vec<Item<'t>>,
+    pub units: Vec<Unit<'t>>,
+}
+
+/// The innermost level, those around it, the innermost last, and the room of levels that were closed.
 #[derive(Drop)]
 pub struct Walk<'t> {
     pub level: Level<'t>,
     pub outer: Vec<Level<'t>>,
+    pub spare: Vec<Room<'t>>,
+}
+
+/// Room that a closed level had, or new room.
+fn room_in<'t>(alloc: Global, spare: &mut Vec<Room<'t>>) -> Room<'t> {
+    match spare.pop() {
+        Some(room) => room,
+        None => Room {
+            items: Vec::new(alloc),
+            units: Vec::new(alloc),
+        },
+    }
 }
 
 impl<'t> Level<'t> {
-    /// A level that opens at a place, with nothing in it.
-    pub fn new(alloc: Global, inside: Inside, opened: Place) -> Level<'t>
+    /// A level that opens at a place, with nothing in it, in spare room if there is some.
+    pub fn new(alloc: Global, inside: Inside, opened: Place, spare: &mut Vec<Room<'t>>) -> Level<'t>
         ensures { (tokens : List Token) → level_shown tokens result ≡ parsing.fresh inside opened }
     {
+        let Room { mut items, units } = room_in(alloc, spare);
+        items.clear();
         Level {
             inside,
             opened,
             first: None,
-            items: Vec::new(alloc),
+            items,
+            units,
             expressions: Vec::new(alloc),
             targets: Vec::new(alloc),
             header: None,
@@ -71,10 +95,7 @@ impl<'t> Level<'t> {
     pub fn and_item(&mut self, item: Item<'t>) -> Result<(), Memory>
         ensures { IfOk result (λ done. (tokens : List Token) → level_shown tokens self.new ≡ parsing.and_item (item_of item.entry) (level_shown tokens self.old)) }
     {
-        match self.items.push(item) {
-            Ok(()) => Ok(()),
-            Err(_) => Err(Memory),
-        }
+        push(&mut self.items, item)
     }
 
     /// The piece that was read is this expression, and the level waits for the next one.
@@ -82,7 +103,7 @@ impl<'t> Level<'t> {
     pub fn and_expression(&mut self, e: Expr) -> Result<(), ParseError>
         ensures { (tokens : List Token) → Moves (Ok (parsing.and_expression (expr_of e) (level_shown tokens self.old))) (level_shown tokens self.new) result }
     {
-        self.expressions.push(e)?;
+        append(&mut self.expressions, e)?;
         self.first = None;
         self.items.clear();
         Ok(())
@@ -93,7 +114,7 @@ impl<'t> Level<'t> {
     pub fn and_target(&mut self, q: Pattern) -> Result<(), ParseError>
         ensures { (tokens : List Token) → Moves (Ok (parsing.and_target (pattern_of q) (level_shown tokens self.old))) (level_shown tokens self.new) result }
     {
-        self.targets.push(q)?;
+        append(&mut self.targets, q)?;
         self.first = None;
         self.items.clear();
         Ok(())
@@ -104,7 +125,7 @@ impl<'t> Level<'t> {
     pub fn and_statement(&mut self, s: Stmt) -> Result<(), ParseError>
         ensures { (tokens : List Token) → Moves (Ok (parsing.and_statement (stmt_of s) (level_shown tokens self.old))) (level_shown tokens self.new) result }
     {
-        self.statements.push(s)?;
+        append(&mut self.statements, s)?;
         self.first = None;
         self.items.clear();
         Ok(())
@@ -142,9 +163,6 @@ impl<'t> Level<'t> {
             header,
             statements: Row::new(shrunk(statements)),
         };
-        match self.done.push(body) {
-            Ok(()) => Ok(()),
-            Err(_) => Err(Memory),
-        }
+        append(&mut self.done, body)
     }
 }

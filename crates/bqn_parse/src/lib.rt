@@ -1,7 +1,6 @@
 //! The tree of a token list.
 #![tactic(auto)]
 
-mod act;
 mod blocks;
 mod close;
 mod draft;

@@ -7,11 +7,10 @@ ghost use Rattle.bqn_syntax.specs.Units as units;
 ghost use Rattle.bqn_parse.specs.Drafts.{draft_of, function_of};
 ghost use Rattle.bqn_parse.specs.Views.{unit_shown};
 
-use crate::draft::{Draft, Function};
+use crate::draft::{Draft, Function, Modified};
 use crate::unit::Unit;
 use bqn_base::Memory;
 use bqn_syntax::{Kind, Pattern, Tag, Token};
-use std::alloc::Global;
 
 fn same_tag(one: Tag, other: Tag) -> bool
     ensures { result ≡ same_tag one other }
@@ -64,8 +63,13 @@ pub fn named<'t>(tag: Tag, draft: Draft<'t>) -> Option<&'t Token>
 fn lone<'t>(function: Function<'t>) -> Option<Draft<'t>>
     ensures { option_map draft_of result ≡ single (units.Function (function_of function.entry)) }
 {
-    let Function { first, uses } = function;
-    if uses.is_empty() { Some(first) } else { None }
+    match function {
+        Function::Plain(first) => Some(first),
+        Function::Modified(all) => {
+            let Modified { first, uses } = all.into_inner();
+            if uses.is_empty() { Some(first) } else { None }
+        }
+    }
 }
 
 /// The part that a unit is by itself, with no modifier.
@@ -82,13 +86,13 @@ pub fn single<'t>(unit: Unit<'t>) -> Option<Draft<'t>>
 
 /// The name or `·` that a part is, as a pattern.
 #[tactic(auto, using(bqn_syntax::specs::Levels::levels))]
-fn exported_part(alloc: Global, draft: Draft<'_>) -> Result<Option<Pattern>, Memory>
+fn exported_part(draft: Draft<'_>) -> Result<Option<Pattern>, Memory>
     ensures { IfOk result (λ q. option_map pattern_of q ≡ exported_part (draft_of draft.entry)) }
 {
     match draft {
         Draft::Token(token) => {
             if is_word(&token.kind) {
-                Ok(Some(Pattern::Name(token.copy(alloc)?)))
+                Ok(Some(Pattern::Name(token.copy()?)))
             } else {
                 Ok(None)
             }
@@ -100,16 +104,14 @@ fn exported_part(alloc: Global, draft: Draft<'_>) -> Result<Option<Pattern>, Mem
 
 /// What is exported without a value: a name or a pattern.
 #[tactic(auto, using(bqn_syntax::specs::Levels::levels))]
-pub fn exported(alloc: Global, unit: Unit<'_>) -> Result<Option<Pattern>, Memory>
+pub fn exported(unit: Unit<'_>) -> Result<Option<Pattern>, Memory>
     ensures { IfOk result (λ q. option_map pattern_of q ≡ exported (unit_shown unit.entry)) }
 {
     match unit {
         Unit::Aim(pattern) => Ok(Some(pattern.into_inner())),
-        Unit::Absent(draft) | Unit::Subject(draft) | Unit::Alone(draft) => {
-            exported_part(alloc, draft)
-        }
+        Unit::Absent(draft) | Unit::Subject(draft) | Unit::Alone(draft) => { exported_part(draft) }
         Unit::Function(function) => match lone(function) {
-            Some(draft) => exported_part(alloc, draft),
+            Some(draft) => exported_part(draft),
             None => Ok(None),
         },
         Unit::Arrow(_) => Ok(None),

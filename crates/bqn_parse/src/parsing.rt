@@ -51,9 +51,11 @@ fn walk(alloc: Global, tokens: &[Token], behind: &[Ahead]) -> Result<Tree, Parse
     requires known { map ahead_shown behind.now ≡ aheads_of tokens.now }
     ensures { Gives (walk start tokens.now) result }
 {
+    let mut spare = Vec::new(alloc);
     let mut walk = Walk {
-        level: Level::new(alloc, Inside::Program, NOWHERE),
+        level: Level::new(alloc, Inside::Program, NOWHERE, &mut spare),
         outer: Vec::new(alloc),
+        spare,
     };
     'tokens: for (index, token) in tokens.iter().enumerate() {
         let ahead = ahead_at(behind, index);

@@ -32,7 +32,7 @@ fn group<'t>(
     let mut elements = elements;
     if elements.len() < 2 {
         return match elements.pop() {
-            Some(element) => element_pattern(alloc, literals, element),
+            Some(element) => element_pattern(literals, element),
             None => Ok(None),
         };
     }

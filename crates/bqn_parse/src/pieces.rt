@@ -7,6 +7,7 @@ ghost use Rattle.bqn_parse.specs.Views.{items_of};
 use crate::expression::{expression, statement};
 use crate::item::Item;
 use crate::terms::units_in;
+use crate::unit::Unit;
 use bqn_base::Memory;
 use bqn_syntax::{Expr, Stmt};
 use std::alloc::Global;
@@ -15,22 +16,29 @@ use std::alloc::Global;
 pub fn piece_expression<'t>(
     alloc: Global,
     items: &mut Vec<Item<'t>>,
+    units: &mut Vec<Unit<'t>>,
 ) -> Result<Option<Expr>, Memory>
     ensures { IfOk result (λ e. option_map expr_of e ≡ expressions.piece_expression (items_of items.old.items)) }
 {
-    match units_in(alloc, items)? {
-        Some(mut units) => expression(alloc, &mut units),
-        None => Ok(None),
+    if units_in(alloc, items, units)? {
+        expression(alloc, units)
+    } else {
+        Ok(None)
     }
 }
 
 /// The statement that a piece is, or none.
-pub fn piece_statement<'t>(alloc: Global, items: &mut Vec<Item<'t>>) -> Result<Option<Stmt>, Memory>
+pub fn piece_statement<'t>(
+    alloc: Global,
+    items: &mut Vec<Item<'t>>,
+    units: &mut Vec<Unit<'t>>,
+) -> Result<Option<Stmt>, Memory>
     ensures { IfOk result (λ s. option_map stmt_of s ≡ expressions.piece_statement (items_of items.old.items)) }
 {
-    match units_in(alloc, items)? {
-        Some(mut units) => statement(alloc, &mut units),
-        None => Ok(None),
+    if units_in(alloc, items, units)? {
+        statement(alloc, units)
+    } else {
+        Ok(None)
     }
 }
 
@@ -46,10 +54,14 @@ fn predicate(condition: Expr) -> Option<Stmt>
 }
 
 /// The predicate that a piece is, or none.
-pub fn piece_predicate<'t>(alloc: Global, items: &mut Vec<Item<'t>>) -> Result<Option<Stmt>, Memory>
+pub fn piece_predicate<'t>(
+    alloc: Global,
+    items: &mut Vec<Item<'t>>,
+    units: &mut Vec<Unit<'t>>,
+) -> Result<Option<Stmt>, Memory>
     ensures { IfOk result (λ s. option_map stmt_of s ≡ expressions.piece_predicate (items_of items.old.items)) }
 {
-    match piece_expression(alloc, items)? {
+    match piece_expression(alloc, items, units)? {
         Some(condition) => Ok(predicate(condition)),
         None => Ok(None),
     }

@@ -91,7 +91,10 @@ fn enter<'t>(
         return Err(ParseError::Refused(Refusal::TooNested(place)));
     }
     walk.level.begin(index);
-    let around = mem::replace(&mut walk.level, Level::new(alloc, inside, place));
+    let around = mem::replace(
+        &mut walk.level,
+        Level::new(alloc, inside, place, &mut walk.spare),
+    );
     walk.outer.push(around)?;
     Ok(())
 }

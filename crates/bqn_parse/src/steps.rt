@@ -1,163 +1,288 @@
-ghost use Rattle.std.specs.Prelude.{◌≡◌, ◌≤◌, ◌+◌, IfOk, ◌∷◌, length};
+ghost use Rattle.std.specs.Prelude.{◌≡◌, ◌≤◌, ◌+◌, ◌++◌, IfOk, [], ◌∷◌, length, map};
 ghost use Rattle.std.specs.Option.{option_map};
 ghost use Rattle.bqn_syntax.specs.Expressions.{assigned, changed, steps_of};
+ghost use Rattle.bqn_syntax.specs.Plain as plain;
+ghost use Rattle.bqn_syntax.specs.Plain.{pattern_of, step_of};
 ghost use Rattle.bqn_syntax.specs.Units as units;
 ghost use Rattle.bqn_syntax.specs.declared.tree.Arrow.TheVariants as arrows;
-ghost use Rattle.bqn_parse.specs.Drafts.{function_of};
-ghost use Rattle.bqn_parse.specs.Leftward.{left_of, next_shown, steps_shown};
-ghost use Rattle.bqn_parse.specs.Views.{backward};
+ghost use Rattle.bqn_parse.specs.Drafts.{draft_of, function_of};
+ghost use Rattle.bqn_parse.specs.Leftward.{joined, left_of, left_shown};
+ghost use Rattle.bqn_parse.specs.Views.{backward, when};
 
-use crate::act::{Act, Target, step};
-use crate::draft::Function;
+use crate::draft::{Draft, Function, derived, part};
 use crate::ends::{push, with_room};
 use crate::named::named;
 use crate::reading::{put_back, take};
 use crate::unit::Unit;
 use bqn_base::{Memory, Row};
-use bqn_syntax::{Arrow, Step, Tag, Token};
+use bqn_syntax::{Arrow, Pattern, Step, Tag, Token};
 use std::alloc::Global;
 
-/// What stands left of a value.
-#[derive(Drop)]
-pub enum Next<'t> {
+/// What stood left of a value.
+#[derive(Clone, Copy)]
+pub enum Left {
+    /// One more step, which has been read.
+    More,
     End,
     /// Nothing that can be done with a value.
     Wrong,
-    Act(Act<'t>),
+}
+
+/// One more step: a call with a left argument.
+#[tactic(auto, using(bqn_syntax::specs::Levels::levels, crate::proofs::Leftward::step_laws))]
+#[inline(always)]
+fn push_dyad<'t>(
+    alloc: Global,
+    steps: &mut Vec<Step>,
+    function: Function<'t>,
+    left: Draft<'t>,
+) -> Result<(), Memory>
+    ensures { IfOk result (λ done. map step_of steps.new.items ≡ map step_of steps.old.items ++ plain.Apply (function_of function.entry) (plain.some (draft_of left.entry)) ∷ []) }
+{
+    let step = Step::Apply {
+        function: derived(alloc, function)?,
+        left: Some(part(alloc, left)?),
+    };
+    push(steps, step)
+}
+
+/// One more step: a call without a left argument.
+#[tactic(auto, using(bqn_syntax::specs::Levels::levels, crate::proofs::Leftward::step_laws))]
+#[inline(never)]
+fn push_monad<'t>(
+    alloc: Global,
+    steps: &mut Vec<Step>,
+    function: Function<'t>,
+) -> Result<(), Memory>
+    ensures { IfOk result (λ done. map step_of steps.new.items ≡ map step_of steps.old.items ++ plain.Apply (function_of function.entry) plain.none ∷ []) }
+{
+    let step = Step::Apply {
+        function: derived(alloc, function)?,
+        left: None,
+    };
+    push(steps, step)
+}
+
+/// One more step: an assignment.
+#[tactic(auto, using(bqn_syntax::specs::Levels::levels, crate::proofs::Leftward::step_laws))]
+#[inline(always)]
+fn push_assignment(steps: &mut Vec<Step>, target: Pattern, arrow: Arrow) -> Result<(), Memory>
+    ensures { IfOk result (λ done. map step_of steps.new.items ≡ map step_of steps.old.items ++ plain.Assign (pattern_of target) arrow ∷ []) }
+{
+    push(steps, Step::Assign { target, arrow })
+}
+
+/// One more step: a change of a name by a function.
+#[tactic(auto, using(bqn_syntax::specs::Levels::levels, crate::proofs::Leftward::step_laws))]
+#[inline(never)]
+fn push_change<'t>(
+    alloc: Global,
+    steps: &mut Vec<Step>,
+    target: &Token,
+    function: Function<'t>,
+) -> Result<(), Memory>
+    ensures { IfOk result (λ done. map step_of steps.new.items ≡ map step_of steps.old.items ++ plain.Modify target.now (function_of function.entry) ∷ []) }
+{
+    let step = Step::Modify {
+        target: target.copy()?,
+        function: derived(alloc, function)?,
+    };
+    push(steps, step)
 }
 
 /// An assignment to a name, where it is one.
+#[tactic(auto, using(crate::proofs::Leftward::step_laws, bqn_syntax::specs::Levels::levels))]
 #[inline(always)]
-fn assigned_name<'t>(name: Option<&'t Token>, arrow: Arrow, left: &[Unit<'t>]) -> Next<'t>
-    ensures means { assigned (option_map (λ t. t.now) name.entry) arrow (steps_of (backward left.now)) ≡ next_shown result (backward left.now) }
-    ensures shorter { left_of result (backward left.now) ≤ length (backward left.now) + 1 }
+fn assigned_name<'t>(
+    steps: &mut Vec<Step>,
+    name: Option<&'t Token>,
+    arrow: Arrow,
+    left: &[Unit<'t>],
+) -> Result<Left, Memory>
+    ensures means { IfOk result (λ so. joined (map step_of steps.old.items) (assigned (option_map (λ t. t.now) name.entry) arrow (steps_of (backward left.now))) ≡ left_shown so (map step_of steps.new.items) (backward left.now)) }
+    ensures shorter { IfOk result (λ so. left_of so (backward left.now) ≤ length (backward left.now) + 1) }
 {
     match name {
-        Some(token) => Next::Act(Act::Assign(Target::Name(token), arrow)),
-        None => Next::Wrong,
+        Some(token) => {
+            push_assignment(steps, Pattern::Name(token.copy()?), arrow)?;
+            Ok(Left::More)
+        }
+        None => Ok(Left::Wrong),
     }
 }
 
 /// A change of a name by a function, where it is one.
-#[inline(always)]
-fn changed_name<'t>(name: Option<&'t Token>, function: Function<'t>, left: &[Unit<'t>]) -> Next<'t>
-    ensures means { changed (option_map (λ t. t.now) name.entry) (function_of function.entry) (steps_of (backward left.now)) ≡ next_shown result (backward left.now) }
-    ensures shorter { left_of result (backward left.now) ≤ length (backward left.now) + 1 }
+#[tactic(auto, using(crate::proofs::Leftward::step_laws))]
+#[inline(never)]
+fn changed_name<'t>(
+    alloc: Global,
+    steps: &mut Vec<Step>,
+    name: Option<&'t Token>,
+    function: Function<'t>,
+    left: &[Unit<'t>],
+) -> Result<Left, Memory>
+    ensures means { IfOk result (λ so. joined (map step_of steps.old.items) (changed (option_map (λ t. t.now) name.entry) (function_of function.entry) (steps_of (backward left.now))) ≡ left_shown so (map step_of steps.new.items) (backward left.now)) }
+    ensures shorter { IfOk result (λ so. left_of so (backward left.now) ≤ length (backward left.now) + 1) }
 {
     match name {
-        Some(target) => Next::Act(Act::Modify(target, function)),
-        None => Next::Wrong,
+        Some(target) => {
+            push_change(alloc, steps, target, function)?;
+            Ok(Left::More)
+        }
+        None => Ok(Left::Wrong),
     }
 }
 
 /// A call of a function, whose left argument is next, if there is one.
+#[tactic(auto, using(crate::proofs::Leftward::step_laws))]
 #[inline(always)]
-pub fn called<'t>(function: Function<'t>, left: &mut Vec<Unit<'t>>) -> Result<Next<'t>, Memory>
-    ensures means { IfOk result (λ next. steps_of (units.Function (function_of function.entry) ∷ backward left.old.items) ≡ next_shown next (backward left.new.items)) }
-    ensures shorter { IfOk result (λ next. left_of next (backward left.new.items) ≤ length (backward left.old.items) + 1) }
+pub fn called<'t>(
+    alloc: Global,
+    steps: &mut Vec<Step>,
+    function: Function<'t>,
+    left: &mut Vec<Unit<'t>>,
+) -> Result<Left, Memory>
+    ensures means { IfOk result (λ so. joined (map step_of steps.old.items) (steps_of (units.Function (function_of function.entry) ∷ backward left.old.items)) ≡ left_shown so (map step_of steps.new.items) (backward left.new.items)) }
+    ensures shorter { IfOk result (λ so. left_of so (backward left.new.items) ≤ length (backward left.old.items) + 1) }
 {
     match take(left) {
         Some(Unit::Subject(draft)) | Some(Unit::Absent(draft)) => {
-            Ok(Next::Act(Act::Apply(function, Some(draft))))
+            push_dyad(alloc, steps, function, draft)?;
+            Ok(Left::More)
         }
         Some(Unit::Function(before)) => {
             put_back(left, Unit::Function(before))?;
-            Ok(Next::Act(Act::Apply(function, None)))
+            push_monad(alloc, steps, function)?;
+            Ok(Left::More)
         }
         Some(Unit::Arrow(arrow)) => {
             put_back(left, Unit::Arrow(arrow))?;
-            Ok(Next::Act(Act::Apply(function, None)))
+            push_monad(alloc, steps, function)?;
+            Ok(Left::More)
         }
-        None => Ok(Next::Act(Act::Apply(function, None))),
-        Some(Unit::Alone(_)) | Some(Unit::Aim(_)) => Ok(Next::Wrong),
+        None => {
+            push_monad(alloc, steps, function)?;
+            Ok(Left::More)
+        }
+        Some(Unit::Alone(_)) | Some(Unit::Aim(_)) => Ok(Left::Wrong),
     }
 }
 
 /// A function behind the arrow `↩`, which changes the name that is next.
-pub fn change<'t>(function: Function<'t>, left: &mut Vec<Unit<'t>>) -> Next<'t>
-    ensures means { steps_of (units.Arrow' arrows.Change ∷ units.Function (function_of function.entry) ∷ backward left.old.items) ≡ next_shown result (backward left.new.items) }
-    ensures shorter { left_of result (backward left.new.items) ≤ length (backward left.old.items) + 1 }
+#[inline(never)]
+pub fn change<'t>(
+    alloc: Global,
+    steps: &mut Vec<Step>,
+    function: Function<'t>,
+    left: &mut Vec<Unit<'t>>,
+) -> Result<Left, Memory>
+    ensures means { IfOk result (λ so. joined (map step_of steps.old.items) (steps_of (units.Arrow' arrows.Change ∷ units.Function (function_of function.entry) ∷ backward left.old.items)) ≡ left_shown so (map step_of steps.new.items) (backward left.new.items)) }
+    ensures shorter { IfOk result (λ so. left_of so (backward left.new.items) ≤ length (backward left.old.items) + 1) }
 {
     match take(left) {
-        Some(Unit::Subject(draft)) => changed_name(named(Tag::Subject, draft), function, left),
+        Some(Unit::Subject(draft)) => {
+            changed_name(alloc, steps, named(Tag::Subject, draft), function, left)
+        }
         Some(Unit::Function(_))
         | Some(Unit::Absent(_))
         | Some(Unit::Alone(_))
         | Some(Unit::Arrow(_))
         | Some(Unit::Aim(_))
-        | None => Next::Wrong,
+        | None => Ok(Left::Wrong),
     }
 }
 
 /// A function behind an arrow.
-fn change_by<'t>(arrow: Arrow, function: Function<'t>, left: &mut Vec<Unit<'t>>) -> Next<'t>
-    ensures means { steps_of (units.Arrow' arrow ∷ units.Function (function_of function.entry) ∷ backward left.old.items) ≡ next_shown result (backward left.new.items) }
-    ensures shorter { left_of result (backward left.new.items) ≤ length (backward left.old.items) + 1 }
+#[inline(never)]
+fn change_by<'t>(
+    alloc: Global,
+    steps: &mut Vec<Step>,
+    arrow: Arrow,
+    function: Function<'t>,
+    left: &mut Vec<Unit<'t>>,
+) -> Result<Left, Memory>
+    ensures means { IfOk result (λ so. joined (map step_of steps.old.items) (steps_of (units.Arrow' arrow ∷ units.Function (function_of function.entry) ∷ backward left.old.items)) ≡ left_shown so (map step_of steps.new.items) (backward left.new.items)) }
+    ensures shorter { IfOk result (λ so. left_of so (backward left.new.items) ≤ length (backward left.old.items) + 1) }
 {
     match arrow {
-        Arrow::Change => change(function, left),
-        Arrow::Define | Arrow::Export => Next::Wrong,
+        Arrow::Change => change(alloc, steps, function, left),
+        Arrow::Define | Arrow::Export => Ok(Left::Wrong),
     }
 }
 
 /// What an arrow does, by the target that is next.
+#[tactic(auto, using(crate::proofs::Leftward::step_laws))]
 #[inline(always)]
-fn drawn<'t>(arrow: Arrow, left: &mut Vec<Unit<'t>>) -> Next<'t>
-    ensures means { steps_of (units.Arrow' arrow ∷ backward left.old.items) ≡ next_shown result (backward left.new.items) }
-    ensures shorter { left_of result (backward left.new.items) ≤ length (backward left.old.items) + 1 }
+fn drawn<'t>(
+    alloc: Global,
+    steps: &mut Vec<Step>,
+    arrow: Arrow,
+    left: &mut Vec<Unit<'t>>,
+) -> Result<Left, Memory>
+    ensures means { IfOk result (λ so. joined (map step_of steps.old.items) (steps_of (units.Arrow' arrow ∷ backward left.old.items)) ≡ left_shown so (map step_of steps.new.items) (backward left.new.items)) }
+    ensures shorter { IfOk result (λ so. left_of so (backward left.new.items) ≤ length (backward left.old.items) + 1) }
 {
     match take(left) {
-        Some(Unit::Aim(pattern)) => Next::Act(Act::Assign(Target::Pattern(pattern), arrow)),
-        Some(Unit::Subject(draft)) => assigned_name(named(Tag::Subject, draft), arrow, left),
-        Some(Unit::Function(function)) => change_by(arrow, function, left),
-        Some(Unit::Absent(_)) | Some(Unit::Alone(_)) | Some(Unit::Arrow(_)) | None => Next::Wrong,
+        Some(Unit::Aim(pattern)) => {
+            push_assignment(steps, pattern.into_inner(), arrow)?;
+            Ok(Left::More)
+        }
+        Some(Unit::Subject(draft)) => {
+            assigned_name(steps, named(Tag::Subject, draft), arrow, left)
+        }
+        Some(Unit::Function(function)) => change_by(alloc, steps, arrow, function, left),
+        Some(Unit::Absent(_)) | Some(Unit::Alone(_)) | Some(Unit::Arrow(_)) | None => {
+            Ok(Left::Wrong)
+        }
     }
 }
 
 /// What is done with a value, by what stands left of it.
+#[tactic(auto, using(crate::proofs::Leftward::step_laws))]
 #[inline(always)]
-pub fn next_step<'t>(left: &mut Vec<Unit<'t>>) -> Result<Next<'t>, Memory>
-    ensures means { IfOk result (λ next. steps_of (backward left.old.items) ≡ next_shown next (backward left.new.items)) }
-    ensures shorter { IfOk result (λ next. left_of next (backward left.new.items) ≤ length (backward left.old.items)) }
+pub fn next_step<'t>(
+    alloc: Global,
+    steps: &mut Vec<Step>,
+    left: &mut Vec<Unit<'t>>,
+) -> Result<Left, Memory>
+    ensures means { IfOk result (λ so. joined (map step_of steps.old.items) (steps_of (backward left.old.items)) ≡ left_shown so (map step_of steps.new.items) (backward left.new.items)) }
+    ensures shorter { IfOk result (λ so. left_of so (backward left.new.items) ≤ length (backward left.old.items)) }
 {
     match take(left) {
-        None => Ok(Next::End),
-        Some(Unit::Function(function)) => called(function, left),
-        Some(Unit::Arrow(arrow)) => Ok(drawn(arrow, left)),
+        None => Ok(Left::End),
+        Some(Unit::Function(function)) => called(alloc, steps, function, left),
+        Some(Unit::Arrow(arrow)) => drawn(alloc, steps, arrow, left),
         Some(Unit::Subject(_))
         | Some(Unit::Absent(_))
         | Some(Unit::Alone(_))
-        | Some(Unit::Aim(_)) => Ok(Next::Wrong),
+        | Some(Unit::Aim(_)) => Ok(Left::Wrong),
     }
 }
 
-/// So many steps are to be expected from this one on, where these units are left: most take two.
-fn room_for(first: &Next<'_>, left: &[Unit<'_>]) -> usize {
-    match first {
-        Next::End | Next::Wrong => 0,
-        Next::Act(_) => left.len().div_ceil(2) + 1,
-    }
-}
-
-/// All that is done with a value, from this on, or none where it is no value.
-#[tactic(auto, using(crate::proofs::Leftward::step_laws))]
-pub fn steps<'t>(
-    alloc: Global,
-    first: Next<'t>,
-    left: &mut Vec<Unit<'t>>,
-) -> Result<Option<Row<Step>>, Memory>
-    ensures { IfOk result (λ all. option_map steps_shown all ≡ next_shown first.entry (backward left.old.items)) }
+/// Room for the steps that are to be expected where these units are left: most take two.
+pub fn room_for(alloc: Global, left: &[Unit<'_>]) -> Result<Vec<Step>, Memory>
+    ensures { IfOk result (λ steps. steps.items ≡ []) }
 {
-    let mut steps = with_room(alloc, room_for(&first, left))?;
-    let mut next = first;
+    with_room(alloc, left.len().div_ceil(2))
+}
+
+/// Reads the steps that are left, behind those that have been read, where this stood left of the last of them; whether
+/// all of it is a value.
+#[tactic(auto, using(crate::proofs::Leftward::step_laws))]
+pub fn all_steps<'t>(
+    alloc: Global,
+    first: Left,
+    steps: &mut Vec<Step>,
+    left: &mut Vec<Unit<'t>>,
+) -> Result<bool, Memory>
+    ensures { IfOk result (λ fine. when fine (plain.steps (map step_of steps.new.items)) ≡ left_shown first (map step_of steps.old.items) (backward left.old.items)) }
+{
+    let mut so = first;
     'steps: loop {
-        match next {
-            Next::End => return Ok(Some(Row::new(steps))),
-            Next::Wrong => return Ok(None),
-            Next::Act(act) => {
-                push(&mut steps, step(alloc, act)?)?;
-                next = next_step(left)?;
-            }
+        match so {
+            Left::End => return Ok(true),
+            Left::Wrong => return Ok(false),
+            Left::More => so = next_step(alloc, steps, left)?,
         }
     }
 }

@@ -14,14 +14,14 @@ use std::alloc::Global;
 
 /// The pattern that a token is, or none: a name, or a literal where there may be some.
 #[tactic(auto, using(bqn_syntax::specs::Levels::levels))]
-fn leaf_pattern(alloc: Global, literals: bool, token: &Token) -> Result<Option<Pattern>, Memory>
+fn leaf_pattern(literals: bool, token: &Token) -> Result<Option<Pattern>, Memory>
     ensures { IfOk result (λ q. option_map pattern_of q ≡ items.leaf_pattern literals token.now.kind token.now) }
 {
     match &token.kind {
-        Kind::Word(..) => Ok(Some(Pattern::Name(token.copy(alloc)?))),
+        Kind::Word(..) => Ok(Some(Pattern::Name(token.copy()?))),
         Kind::Number(_) | Kind::Char(_) | Kind::Text(_) => {
             if literals {
-                Ok(Some(Pattern::Literal(token.copy(alloc)?)))
+                Ok(Some(Pattern::Literal(token.copy()?)))
             } else {
                 Ok(None)
             }
@@ -32,15 +32,11 @@ fn leaf_pattern(alloc: Global, literals: bool, token: &Token) -> Result<Option<P
 
 /// The pattern that an element is, or none.
 #[tactic(auto, using(bqn_syntax::specs::Levels::levels))]
-pub fn element_pattern(
-    alloc: Global,
-    literals: bool,
-    element: Element<'_>,
-) -> Result<Option<Pattern>, Memory>
+pub fn element_pattern(literals: bool, element: Element<'_>) -> Result<Option<Pattern>, Memory>
     ensures { IfOk result (λ q. option_map pattern_of q ≡ items.element_pattern literals (element_of element.entry)) }
 {
     match element {
-        Element::Part(Draft::Token(token)) => leaf_pattern(alloc, literals, token),
+        Element::Part(Draft::Token(token)) => leaf_pattern(literals, token),
         Element::Part(Draft::Nothing(place)) => Ok(Some(Pattern::Skip(place))),
         Element::Part(_) => Ok(None),
         Element::List(pattern) => Ok(Some(pattern.into_inner())),
@@ -70,7 +66,7 @@ pub fn element_patterns<'t>(
 {
     let mut patterns = with_room(alloc, elements.len())?;
     'elements: for element in elements {
-        match element_pattern(alloc, literals, element)? {
+        match element_pattern(literals, element)? {
             Some(pattern) => push(&mut patterns, pattern)?,
             None => return Ok(None),
         }

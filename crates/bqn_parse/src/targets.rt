@@ -6,7 +6,7 @@ ghost use Rattle.bqn_syntax.specs.Units.{Arrow'};
 ghost use Rattle.bqn_parse.specs.Trains.{targets_if};
 ghost use Rattle.bqn_parse.specs.Views.{backward, unit_shown};
 
-use crate::ends::{push, shrunk};
+use crate::ends::{append, shrunk};
 use crate::named::{named, single};
 use crate::reading::take;
 use crate::unit::Unit;
@@ -28,7 +28,6 @@ fn name_of<'t>(tag: Tag, unit: Unit<'t>) -> Option<&'t Token>
 /// is one.
 #[tactic(auto, using(crate::proofs::Trains::train_laws))]
 fn before_arrow<'t>(
-    alloc: Global,
     tag: Tag,
     found: &mut Vec<(Token, Arrow)>,
     arrow: Arrow,
@@ -43,7 +42,7 @@ fn before_arrow<'t>(
     match name_of(tag, unit) {
         None => Ok(false),
         Some(token) => {
-            push(found, (token.copy(alloc)?, arrow))?;
+            append(found, (token.copy()?, arrow))?;
             Ok(true)
         }
     }
@@ -51,7 +50,6 @@ fn before_arrow<'t>(
 
 /// One more target, whose arrow is this unit; whether there is one.
 fn target_at<'t>(
-    alloc: Global,
     tag: Tag,
     found: &mut Vec<(Token, Arrow)>,
     unit: Unit<'t>,
@@ -63,7 +61,7 @@ fn target_at<'t>(
     let Unit::Arrow(arrow) = unit else {
         return Ok(false);
     };
-    before_arrow(alloc, tag, found, arrow, left)
+    before_arrow(tag, found, arrow, left)
 }
 
 /// The names of this role, each before an arrow, that these units are, from left to right, or none.
@@ -77,7 +75,7 @@ pub fn targets<'t>(
 {
     let mut found = Vec::new(alloc);
     'targets: while let Some(unit) = take(left) {
-        match target_at(alloc, tag, &mut found, unit, left) {
+        match target_at(tag, &mut found, unit, left) {
             Ok(true) => {}
             Ok(false) => return Ok(None),
             Err(error) => return Err(error),

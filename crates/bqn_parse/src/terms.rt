@@ -1,16 +1,18 @@
-ghost use Rattle.std.specs.Prelude.{◌≡◌, ◌<◌, IfOk, [], length, reverse};
+ghost use Rattle.std.specs.Prelude.{◌≡◌, ◌<◌, IfOk, IsTrue, [], ◌∷◌, length, reverse};
 ghost use Rattle.std.specs.Option.{option_and_then, option_map};
 ghost use Rattle.bqn_syntax.specs.Expressions as expressions;
 ghost use Rattle.bqn_syntax.specs.Items as items;
 ghost use Rattle.bqn_syntax.specs.Units.{bound};
 ghost use Rattle.bqn_parse.specs.Drafts.{draft_of, field_of};
-ghost use Rattle.bqn_parse.specs.Fused.{draw, drawn, ended, join, piece, put, select, stand, units_with, with_term};
+ghost use Rattle.bqn_parse.specs.Fused.{draw, drawn, ended, join, piece, put, select, stand, units_if, units_with, with_term};
+ghost use Rattle.bqn_parse.specs.Following.{behind_by, behind_of};
+ghost use Rattle.bqn_parse.specs.declared.terms.Reading.TheVariants as readings;
 ghost use Rattle.bqn_parse.specs.Grouping.{grouping_shown};
 ghost use Rattle.bqn_parse.specs.Strands.{elements_of, reader_of, reading_of};
 ghost use Rattle.bqn_parse.specs.Views.{backward, element_of, item_of, items_of, when};
 
 use crate::draft::{Draft, Field, boxed, part, tag_of_draft};
-use crate::ends::{push, with_room};
+use crate::ends::push;
 use crate::item::{Element, Item};
 use crate::strand::{element_parts, element_patterns};
 use crate::unit::Unit;
@@ -83,9 +85,41 @@ fn aimed_strand<'t>(
     }
 }
 
-/// An element where no arrow follows, behind those that are joined to it.
+/// An element by itself, where no arrow follows.
 #[tactic(auto, using(bqn_syntax::specs::Levels::levels))]
 #[inline(always)]
+fn plain_alone<'t>(
+    alloc: Global,
+    grouping: &mut Grouping<'t>,
+    element: Element<'t>,
+) -> Result<bool, Memory>
+    ensures { IfOk result (λ fine. when fine (grouping_shown grouping.new) ≡ with_term (grouping_shown grouping.old) (items.plain_term [] (element_of element.entry))) }
+{
+    match element {
+        Element::Part(part) => bind_part(alloc, grouping, part),
+        Element::List(_) => Ok(false),
+    }
+}
+
+/// An element by itself, directly before an arrow: a list there is a pattern.
+#[tactic(auto, using(bqn_syntax::specs::Levels::levels))]
+#[inline(always)]
+fn aimed_alone<'t>(
+    alloc: Global,
+    grouping: &mut Grouping<'t>,
+    element: Element<'t>,
+) -> Result<bool, Memory>
+    ensures { IfOk result (λ fine. when fine (grouping_shown grouping.new) ≡ with_term (grouping_shown grouping.old) (items.aimed_term [] (element_of element.entry))) }
+{
+    match element {
+        Element::Part(Draft::List(_)) => Ok(false),
+        Element::Part(part) => bind_part(alloc, grouping, part),
+        Element::List(pattern) => beside(grouping, Unit::Aim(pattern)),
+    }
+}
+
+/// An element where no arrow follows, behind those that are joined to it.
+#[inline(never)]
 fn plain_term<'t>(
     alloc: Global,
     grouping: &mut Grouping<'t>,
@@ -94,18 +128,15 @@ fn plain_term<'t>(
 ) -> Result<bool, Memory>
     ensures { IfOk result (λ fine. when fine (grouping_shown grouping.new) ≡ with_term (grouping_shown grouping.old) (items.plain_term (elements_of joined.old.items) (element_of element.entry))) }
 {
-    if !joined.is_empty() {
-        let joined = mem::replace(joined, Vec::new(alloc));
-        return plain_strand(alloc, grouping, joined, element);
+    if joined.is_empty() {
+        return plain_alone(alloc, grouping, element);
     }
-    match element {
-        Element::Part(part) => bind_part(alloc, grouping, part),
-        Element::List(_) => Ok(false),
-    }
+    let joined = mem::replace(joined, Vec::new(alloc));
+    plain_strand(alloc, grouping, joined, element)
 }
 
-/// An element directly before an arrow: a list or a strand there is a pattern.
-#[tactic(auto, using(bqn_syntax::specs::Levels::levels))]
+/// An element directly before an arrow, behind those that are joined to it: a list or a strand there is a pattern.
+#[inline(never)]
 fn aimed_term<'t>(
     alloc: Global,
     grouping: &mut Grouping<'t>,
@@ -114,15 +145,11 @@ fn aimed_term<'t>(
 ) -> Result<bool, Memory>
     ensures { IfOk result (λ fine. when fine (grouping_shown grouping.new) ≡ with_term (grouping_shown grouping.old) (items.aimed_term (elements_of joined.old.items) (element_of element.entry))) }
 {
-    if !joined.is_empty() {
-        let joined = mem::replace(joined, Vec::new(alloc));
-        return aimed_strand(alloc, grouping, joined, element);
+    if joined.is_empty() {
+        return aimed_alone(alloc, grouping, element);
     }
-    match element {
-        Element::Part(Draft::List(_)) => Ok(false),
-        Element::Part(part) => bind_part(alloc, grouping, part),
-        Element::List(pattern) => beside(grouping, Unit::Aim(pattern)),
-    }
+    let joined = mem::replace(joined, Vec::new(alloc));
+    aimed_strand(alloc, grouping, joined, element)
 }
 
 /// One more name behind a part.
@@ -137,7 +164,7 @@ fn with_name<'t>(alloc: Global, draft: Draft<'t>, name: &Token) -> Result<Field,
             names: Vec::new(alloc),
         },
     };
-    push(&mut field.names, name.copy(alloc)?)?;
+    push(&mut field.names, name.copy()?)?;
     Ok(field)
 }
 
@@ -165,7 +192,6 @@ fn selected<'t>(
 }
 
 /// An element that nothing is joined to.
-#[inline(always)]
 fn begin<'t>(reader: &mut Reader<'t>, element: Element<'t>)
     ensures { reader_of reader.new ≡ piece (grouping_shown reader.old.grouping) (items.At [] (element_of element.entry)) }
 {
@@ -174,7 +200,6 @@ fn begin<'t>(reader: &mut Reader<'t>, element: Element<'t>)
 }
 
 /// An element directly behind another one.
-#[inline(always)]
 fn stand_behind<'t>(
     alloc: Global,
     reader: &mut Reader<'t>,
@@ -191,7 +216,7 @@ fn stand_behind<'t>(
 }
 
 /// An element, where one may stand.
-#[inline(always)]
+#[inline(never)]
 fn stand<'t>(alloc: Global, reader: &mut Reader<'t>, element: Element<'t>) -> Result<bool, Memory>
     ensures { IfOk result (λ fine. when fine (reader_of reader.new) ≡ stand (grouping_shown reader.old.grouping) (reading_of (elements_of reader.old.joined.items) reader.old.reading) (element_of element.entry)) }
 {
@@ -274,9 +299,9 @@ fn draw<'t>(alloc: Global, reader: &mut Reader<'t>, arrow: Arrow) -> Result<bool
     }
 }
 
-/// One more item.
-#[inline(always)]
-fn put<'t>(alloc: Global, reader: &mut Reader<'t>, item: Item<'t>) -> Result<bool, Memory>
+/// One more item, whatever stands behind it.
+#[inline(never)]
+fn put_any<'t>(alloc: Global, reader: &mut Reader<'t>, item: Item<'t>) -> Result<bool, Memory>
     ensures { IfOk result (λ fine. when fine (reader_of reader.new) ≡ put (reader_of reader.old) (item_of item.entry)) }
 {
     match item {
@@ -285,6 +310,89 @@ fn put<'t>(alloc: Global, reader: &mut Reader<'t>, item: Item<'t>) -> Result<boo
         Item::Joining => join(reader),
         Item::Selecting => Ok(select(reader)),
         Item::Wrong => Ok(false),
+    }
+}
+
+/// What stands behind an item: a joiner or a dot, which asks for more; an arrow; anything else.
+#[derive(Clone, Copy)]
+enum Behind {
+    Asks,
+    Draws,
+    Else,
+}
+
+/// What this item is for the one in front of it.
+#[inline(always)]
+fn as_follower(item: &Item<'_>) -> Behind
+    ensures { result ≡ behind_by (item_of item.now) }
+{
+    match item {
+        Item::Joining | Item::Selecting => Behind::Asks,
+        Item::Drawn(_) => Behind::Draws,
+        Item::Standing(_) | Item::Wrong => Behind::Else,
+    }
+}
+
+/// What the items that are left, the first of them last, are for the one in front of them.
+#[tactic(auto, using(crate::proofs::Fused::behind_laws))]
+#[inline(always)]
+fn what_follows(left: &[Item<'_>]) -> Behind
+    ensures { result ≡ behind_of (items_of (reverse left.now)) }
+{
+    match left.last() {
+        Some(item) => as_follower(item),
+        None => Behind::Else,
+    }
+}
+
+/// Whether nothing is being read.
+#[inline(always)]
+fn is_between(reading: &Reading<'_>) -> bool
+    ensures { IsTrue result → reading.now ≡ readings.Between }
+{
+    matches!(reading, Reading::Between)
+}
+
+/// An element that nothing asks for, before these items: it is bound at once where nothing is joined to it.
+#[tactic(auto, using(crate::proofs::Fused::eager_laws))]
+#[inline(always)]
+fn stand_first<'t>(
+    alloc: Global,
+    reader: &mut Reader<'t>,
+    element: Element<'t>,
+    left: &[Item<'t>],
+) -> Result<bool, Memory>
+    requires { reader.old.reading ≡ readings.Between }
+    ensures { IfOk result (λ fine. units_if fine (reader_of reader.new) (items_of (reverse left.now)) ≡ units_with (reader_of reader.old) (items.Standing (element_of element.entry) ∷ items_of (reverse left.now))) }
+{
+    match what_follows(left) {
+        Behind::Asks => {
+            begin(reader, element);
+            Ok(true)
+        }
+        Behind::Draws => aimed_alone(alloc, &mut reader.grouping, element),
+        Behind::Else => plain_alone(alloc, &mut reader.grouping, element),
+    }
+}
+
+/// One more item, before these.
+#[tactic(auto, using(crate::proofs::Fused::eager_laws))]
+#[inline(always)]
+fn put<'t>(
+    alloc: Global,
+    reader: &mut Reader<'t>,
+    item: Item<'t>,
+    left: &[Item<'t>],
+) -> Result<bool, Memory>
+    ensures { IfOk result (λ fine. units_if fine (reader_of reader.new) (items_of (reverse left.now)) ≡ units_with (reader_of reader.old) (item_of item.entry ∷ items_of (reverse left.now))) }
+{
+    if !is_between(&reader.reading) {
+        return put_any(alloc, reader, item);
+    }
+    match item {
+        Item::Standing(element) => stand_first(alloc, reader, element, left),
+        Item::Drawn(arrow) => beside(&mut reader.grouping, Unit::Arrow(arrow)),
+        Item::Joining | Item::Selecting | Item::Wrong => Ok(false),
     }
 }
 
@@ -324,7 +432,7 @@ fn read_all<'t>(
     ensures { IfOk result (λ fine. when fine (backward reader.new.grouping.units.items) ≡ units_with (reader_of reader.old) (items_of (reverse items.old.items))) }
 {
     'items: while let Some(item) = items.pop() {
-        match put(alloc, reader, item) {
+        match put(alloc, reader, item, items.as_slice()) {
             Ok(true) => {}
             Ok(false) => return Ok(false),
             Err(error) => return Err(error),
@@ -333,26 +441,28 @@ fn read_all<'t>(
     finished(alloc, reader)
 }
 
-/// The units of a piece in order, or none where its items have no such form. The items are used up.
+/// The units of a piece in order, in place of those that were there, where its items have such a form. The items
+/// are used up.
 #[tactic(auto, using(crate::proofs::Fused::loop_laws, crate::proofs::Fused::turn_laws))]
 pub fn units_in<'t>(
     alloc: Global,
     items: &mut Vec<Item<'t>>,
-) -> Result<Option<Vec<Unit<'t>>>, Memory>
-    ensures { IfOk result (λ units. option_map (λ us. backward us.items) units ≡ expressions.units_in (items_of items.old.items)) }
+    units: &mut Vec<Unit<'t>>,
+) -> Result<bool, Memory>
+    ensures { IfOk result (λ fine. when fine (backward units.new.items) ≡ expressions.units_in (items_of items.old.items)) }
 {
+    units.clear();
     let mut reader = Reader {
         grouping: Grouping {
-            units: with_room(alloc, items.len())?,
+            units: mem::replace(units, Vec::new(alloc)),
             binding: Binding::Free,
         },
         joined: Vec::new(alloc),
         reading: Reading::Between,
     };
     items.reverse();
-    if !read_all(alloc, &mut reader, items)? {
-        return Ok(None);
-    }
+    let fine = read_all(alloc, &mut reader, items)?;
     let Reader { grouping, .. } = reader;
-    Ok(Some(grouping.units))
+    *units = grouping.units;
+    Ok(fine)
 }

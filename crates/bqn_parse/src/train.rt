@@ -9,7 +9,7 @@ ghost use Rattle.bqn_parse.specs.Trains.{parts_shown, turn_left, turn_shown};
 ghost use Rattle.bqn_parse.specs.Views.{backward};
 
 use crate::draft::{Draft, Function, derived, part};
-use crate::ends::{push, shrunk};
+use crate::ends::{append, shrunk};
 use crate::reading::{put_back, take};
 use crate::targets::targets;
 use crate::unit::Unit;
@@ -37,7 +37,7 @@ fn push_function<'t>(
 ) -> Result<(), Memory>
     ensures { IfOk result (λ done. parts_shown parts.new.items ≡ and_deriveds (function_of function.entry) (parts_shown parts.old.items)) }
 {
-    push(parts, derived(alloc, function)?)
+    append(parts, derived(alloc, function)?)
 }
 
 /// A part with no modifier is one more part.
@@ -49,7 +49,7 @@ fn push_alone<'t>(alloc: Global, parts: &mut Vec<Derived>, draft: Draft<'t>) -> 
         first: part(alloc, draft)?,
         uses: Row::new(Vec::new(alloc)),
     };
-    push(parts, alone)
+    append(parts, alone)
 }
 
 /// One more part, which is a function.

@@ -1,17 +1,20 @@
-ghost use Rattle.std.specs.Prelude.{◌≡◌, IfOk, map};
+ghost use Rattle.std.specs.Prelude.{◌≡◌, IfOk, [], ◌∷◌, ◌++◌, map};
 ghost use Rattle.bqn_syntax.specs.Plain.{use_of};
 ghost use Rattle.bqn_syntax.specs.Sorts.{tag};
-ghost use Rattle.bqn_syntax.specs.Units.{unit_of, closed, operand, modified, modified_twice, beside, bind_part, bound};
+ghost use Rattle.bqn_syntax.specs.Plain as plain;
+ghost use Rattle.bqn_syntax.specs.Units as units;
+ghost use Rattle.bqn_syntax.specs.Units.{alone, unit_of, closed, operand, modified, modified_twice, beside, bind_part, bound};
 ghost use Rattle.bqn_parse.specs.declared.units.Binding.TheVariants as binding;
 ghost use Rattle.bqn_parse.specs.Drafts.{draft_of};
-ghost use Rattle.bqn_parse.specs.Grouping.{binding_shown, grouping_shown};
+ghost use Rattle.bqn_parse.specs.Grouping.{binding_shown, grouping_shown, operand_shown, uses_shown};
 ghost use Rattle.bqn_parse.specs.Views.{backward, unit_shown, when};
 
-use crate::draft::{Draft, Function, part, tag_of_draft};
-use crate::ends::push;
+use crate::draft::{Draft, Function, Modified, boxed, part, tag_of_draft};
+use crate::ends::{push, with_room};
 use crate::unit::Unit;
 use bqn_base::Memory;
 use bqn_syntax::{ModUse, Tag};
+use sqlite_items::Boxed;
 use std::alloc::Global;
 use std::mem;
 
@@ -19,9 +22,9 @@ use std::mem;
 #[derive(Drop)]
 pub enum Binding<'t> {
     Free,
-    Bound(Draft<'t>, Vec<ModUse>),
+    Bound(Function<'t>),
     /// The last modifier wants its second operand.
-    Wanting(Draft<'t>, Vec<ModUse>, Draft<'t>),
+    Wanting(Function<'t>, Draft<'t>),
 }
 
 /// The units so far, in order, and the operand that is being read.
@@ -31,20 +34,41 @@ pub struct Grouping<'t> {
     pub binding: Binding<'t>,
 }
 
-/// A part with its modifiers.
-#[tactic(auto, using(bqn_syntax::specs::Levels::levels))]
+/// A part by itself.
 #[inline(always)]
-fn unit_of<'t>(first: Draft<'t>, uses: Vec<ModUse>) -> Unit<'t>
-    ensures { unit_shown result ≡ unit_of (draft_of first.entry) (map use_of uses.items) }
+fn alone<'t>(first: Draft<'t>) -> Unit<'t>
+    ensures { unit_shown result ≡ alone (tag (draft_of first.entry)) (draft_of first.entry) }
 {
-    if !uses.is_empty() {
-        return Unit::Function(Function { first, uses });
-    }
     match tag_of_draft(&first) {
         Tag::Subject => Unit::Subject(first),
-        Tag::Function => Unit::Function(Function { first, uses }),
+        Tag::Function => Unit::Function(Function::Plain(first)),
         Tag::Mod1 | Tag::Mod2 => Unit::Alone(first),
         Tag::Nothing => Unit::Absent(first),
+    }
+}
+
+/// A part with its modifiers, if there are some.
+#[tactic(auto, using(bqn_syntax::specs::Levels::levels))]
+#[inline(never)]
+fn modified_unit<'t>(all: Boxed<Modified<'t>>) -> Unit<'t>
+    ensures { unit_shown result ≡ unit_of (draft_of all.entry.first) (map use_of all.entry.uses.items) }
+{
+    if !all.get().uses.is_empty() {
+        return Unit::Function(Function::Modified(all));
+    }
+    let Modified { first, .. } = all.into_inner();
+    alone(first)
+}
+
+/// A part with its modifiers, as a unit.
+#[tactic(auto, using(bqn_syntax::specs::Levels::levels))]
+#[inline(always)]
+fn unit_of<'t>(function: Function<'t>) -> Unit<'t>
+    ensures { unit_shown result ≡ unit_of (operand_shown function.entry) (uses_shown function.entry) }
+{
+    match function {
+        Function::Plain(first) => alone(first),
+        Function::Modified(all) => modified_unit(all),
     }
 }
 
@@ -56,12 +80,47 @@ pub fn closed<'t>(grouping: &mut Grouping<'t>) -> Result<bool, Memory>
 {
     match mem::replace(&mut grouping.binding, Binding::Free) {
         Binding::Free => Ok(true),
-        Binding::Bound(first, uses) => {
-            push(&mut grouping.units, unit_of(first, uses))?;
+        Binding::Bound(function) => {
+            push(&mut grouping.units, unit_of(function))?;
             Ok(true)
         }
         Binding::Wanting(..) => Ok(false),
     }
+}
+
+/// The function with one more modifier behind it.
+#[tactic(auto, using(bqn_syntax::specs::Levels::levels))]
+#[inline(never)]
+fn with_use<'t>(alloc: Global, function: Function<'t>, one: ModUse) -> Result<Function<'t>, Memory>
+    ensures part { IfOk result (λ with. operand_shown with ≡ operand_shown function.entry) }
+    ensures uses { IfOk result (λ with. uses_shown with ≡ uses_shown function.entry ++ use_of one ∷ []) }
+{
+    let (first, mut uses) = match function {
+        Function::Plain(first) => (first, with_room(alloc, 1)?),
+        Function::Modified(all) => {
+            let Modified { first, uses } = all.into_inner();
+            (first, uses)
+        }
+    };
+    push(&mut uses, one)?;
+    Ok(Function::Modified(boxed(alloc, Modified { first, uses })?))
+}
+
+/// The second operand of the last modifier.
+#[tactic(auto, using(bqn_syntax::specs::Levels::levels))]
+#[inline(never)]
+fn second<'t>(
+    alloc: Global,
+    grouping: &mut Grouping<'t>,
+    function: Function<'t>,
+    modifier: Draft<'t>,
+    draft: Draft<'t>,
+) -> Result<(), Memory>
+    ensures { IfOk result (λ done. grouping_shown grouping.new ≡ units.row (backward grouping.old.units.items) (units.Bound (operand_shown function.entry) (uses_shown function.entry ++ plain.Two (draft_of modifier.entry) (draft_of draft.entry) ∷ []))) }
+{
+    let one = ModUse::Two(part(alloc, modifier)?, part(alloc, draft)?);
+    grouping.binding = Binding::Bound(with_use(alloc, function, one)?);
+    Ok(())
 }
 
 /// One more subject or function.
@@ -71,24 +130,19 @@ fn operand<'t>(alloc: Global, grouping: &mut Grouping<'t>, draft: Draft<'t>) -> 
     ensures { IfOk result (λ done. grouping_shown grouping.new ≡ operand (backward grouping.old.units.items) (binding_shown grouping.old.binding) (draft_of draft.entry)) }
 {
     match mem::replace(&mut grouping.binding, Binding::Free) {
-        Binding::Free => grouping.binding = Binding::Bound(draft, Vec::new(alloc)),
-        Binding::Bound(first, uses) => {
-            push(&mut grouping.units, unit_of(first, uses))?;
-            grouping.binding = Binding::Bound(draft, Vec::new(alloc));
-        }
-        Binding::Wanting(first, mut uses, modifier) => {
-            push(
-                &mut uses,
-                ModUse::Two(part(alloc, modifier)?, part(alloc, draft)?),
-            )?;
-            grouping.binding = Binding::Bound(first, uses);
+        Binding::Free => {}
+        Binding::Bound(function) => push(&mut grouping.units, unit_of(function))?,
+        Binding::Wanting(function, modifier) => {
+            return second(alloc, grouping, function, modifier, draft);
         }
     }
+    grouping.binding = Binding::Bound(Function::Plain(draft));
     Ok(())
 }
 
 /// One more 1-modifier.
 #[tactic(auto, using(crate::proofs::Backward::unit_laws, bqn_syntax::specs::Levels::levels))]
+#[inline(never)]
 fn modified<'t>(
     alloc: Global,
     grouping: &mut Grouping<'t>,
@@ -101,9 +155,9 @@ fn modified<'t>(
             push(&mut grouping.units, Unit::Alone(modifier))?;
             Ok(true)
         }
-        Binding::Bound(first, mut uses) => {
-            push(&mut uses, ModUse::One(part(alloc, modifier)?))?;
-            grouping.binding = Binding::Bound(first, uses);
+        Binding::Bound(function) => {
+            let one = ModUse::One(part(alloc, modifier)?);
+            grouping.binding = Binding::Bound(with_use(alloc, function, one)?);
             Ok(true)
         }
         Binding::Wanting(..) => Ok(false),
@@ -112,6 +166,7 @@ fn modified<'t>(
 
 /// One more 2-modifier.
 #[tactic(auto, using(crate::proofs::Backward::unit_laws, bqn_syntax::specs::Levels::levels))]
+#[inline(never)]
 fn modified_twice<'t>(grouping: &mut Grouping<'t>, modifier: Draft<'t>) -> Result<bool, Memory>
     ensures { IfOk result (λ fine. when fine (grouping_shown grouping.new) ≡ modified_twice (backward grouping.old.units.items) (binding_shown grouping.old.binding) (draft_of modifier.entry)) }
 {
@@ -120,8 +175,8 @@ fn modified_twice<'t>(grouping: &mut Grouping<'t>, modifier: Draft<'t>) -> Resul
             push(&mut grouping.units, Unit::Alone(modifier))?;
             Ok(true)
         }
-        Binding::Bound(first, uses) => {
-            grouping.binding = Binding::Wanting(first, uses, modifier);
+        Binding::Bound(function) => {
+            grouping.binding = Binding::Wanting(function, modifier);
             Ok(true)
         }
         Binding::Wanting(..) => Ok(false),

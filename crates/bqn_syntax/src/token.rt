@@ -4,7 +4,6 @@ ghost use Rattle.bqn_syntax.specs.Sorts.{sort_of, kind_tag};
 use crate::sort::{Bracket, Sort, Tag};
 use crate::tree::Arrow;
 use bqn_base::{Memory, Name, Place, Role, Text};
-use std::alloc::Global;
 
 /// A name that belongs to the block whose text it stands in.
 #[derive(Clone, Copy, Debug, PartialEq, Eq)]
@@ -40,15 +39,15 @@ pub enum Kind {
 impl Kind {
     /// An identical kind.
     #[inline(always)]
-    pub fn copy(&self, alloc: Global) -> Result<Kind, Memory>
+    pub fn copy(&self) -> Result<Kind, Memory>
         ensures { IfOk result (λ kind. kind ≡ self.now) }
     {
         match self {
             Kind::Number(number) => Ok(Kind::Number(*number)),
             Kind::Char(c) => Ok(Kind::Char(*c)),
-            Kind::Text(text) => Ok(Kind::Text(Text::new(alloc, text.chars())?)),
-            Kind::Word(name, role) => Ok(Kind::Word(Name::new(alloc, name.chars())?, *role)),
-            Kind::System(name, role) => Ok(Kind::System(Name::new(alloc, name.chars())?, *role)),
+            Kind::Text(text) => Ok(Kind::Text(text.share()?)),
+            Kind::Word(name, role) => Ok(Kind::Word(name.share()?, *role)),
+            Kind::System(name, role) => Ok(Kind::System(name.share()?, *role)),
             Kind::Special(special, role) => Ok(Kind::Special(*special, *role)),
             Kind::Given(primitive) => Ok(Kind::Given(*primitive)),
             Kind::Punct(c) => Ok(Kind::Punct(*c)),
@@ -109,11 +108,11 @@ pub struct Token {
 impl Token {
     /// An identical token.
     #[inline(always)]
-    pub fn copy(&self, alloc: Global) -> Result<Token, Memory>
+    pub fn copy(&self) -> Result<Token, Memory>
         ensures { IfOk result (λ token. token ≡ self.now) }
     {
         Ok(Token {
-            kind: self.kind.copy(alloc)?,
+            kind: self.kind.copy()?,
             place: self.place,
         })
     }

@@ -1,14 +1,10 @@
 -- What a piece stands for, case by case.
-use Rattle.std.proofs.Common.{◌≡◌, ℕ, zero, suc, ℤ, pos, ◌<◌, ◌+◌, ◌-◌, List, [], ◌∷◌, Bool, true, Option, Some, None, Ok, Err, length, refl, ap, ◌∙◌, arith}
-use Rattle.std.specs.Prelude.{◌==◌, if◌then◌else◌}
+use Rattle.std.proofs.Common.{◌≡◌, ℕ, ℤ, [], ◌∷◌, Bool, Option, Some, None, Ok, Err, refl, ap}
+use Rattle.std.specs.Prelude.{if◌then◌else◌}
 use Rattle.std.specs.Option.{option_map}
 use Rattle.bqn_base.specs.declared.place.Place.{Place}
 use Rattle.bqn_base.specs.declared.refusal.Refusal.TheVariants as refusal
-use Rattle.std.proofs.lemmas.Bool.{eqb-true}
-use Rattle.std.proofs.lemmas.Bool.Decides.{nat_tests}
-use Rattle.std.proofs.lemmas.List.{nil_from_length}
-use Rattle.bqn_base.specs.Characters.{is_digit}
-use Rattle.bqn_base.specs.Literal.{Literal, Number, Bad, Range, literal}
+use Rattle.bqn_base.specs.Literal.{Literal, Number, Bad, Range}
 use Rattle.bqn_syntax.specs.declared.token.Special.{Special}
 use Rattle.bqn_syntax.specs.declared.token.Kind.{Kind}
 use Rattle.bqn_syntax.specs.declared.token.Kind.TheVariants as kind
@@ -42,23 +38,3 @@ single_if at_sign name code c =
       | Some n ↦ kind.Special n (role_of (c ∷ []))
       | None ↦ elim (option_map (λ n. kind.Given n) code) [ Some k ↦ k | None ↦ kind.Punct c ]
     ]
-
--- a digit stands for its number
-digit-at : (n : ℕ) → n < 10 → literal ((48 + n) ∷ []) ≡ Number (pos n)
-digit-at zero lt = refl
-digit-at (suc zero) lt = refl
-digit-at (suc (suc zero)) lt = refl
-digit-at (suc (suc (suc zero))) lt = refl
-digit-at (suc (suc (suc (suc zero)))) lt = refl
-digit-at (suc (suc (suc (suc (suc zero))))) lt = refl
-digit-at (suc (suc (suc (suc (suc (suc zero)))))) lt = refl
-digit-at (suc (suc (suc (suc (suc (suc (suc zero))))))) lt = refl
-digit-at (suc (suc (suc (suc (suc (suc (suc (suc zero)))))))) lt = refl
-digit-at (suc (suc (suc (suc (suc (suc (suc (suc (suc zero))))))))) lt = refl
-digit-at (suc (suc (suc (suc (suc (suc (suc (suc (suc (suc n)))))))))) lt = absurd (omega arith)
-
-pub digit-literal : (word : List ℕ) (c : ℕ) (cs : List ℕ) → word ≡ c ∷ cs → (length cs == 0) ≡ true → is_digit c ≡ true → literal word ≡ Number (pos (c - 48))
-digit-literal word c cs same none digit =
-    let below : c - 48 < 10 = grind (arith, nat_tests) in
-    let code : c ≡ 48 + (c - 48) = grind (arith, nat_tests) in
-    ap (λ (w : List ℕ). literal w) (same ∙ ap (λ (ds : List ℕ). c ∷ ds) (nil_from_length cs (eqb-true (length cs) 0 none)) ∙ ap (λ (x : ℕ). x ∷ []) code) ∙ digit-at (c - 48) below

@@ -17,6 +17,10 @@ use Rattle.bqn_token.specs.declared.error.TokenError.{TokenError}
 use Rattle.bqn_token.specs.declared.error.TokenError.TheVariants.{Refused, Memory}
 use Rattle.bqn_token.specs.Tokenizing.{Gives, Tokenizes, placed, token_at}
 use Rattle.bqn_token.specs.Alones.{single_of, shown_alone}
+use Rattle.bqn_base.specs.Names.{is_name_character as is_plain}
+use Rattle.bqn_token.specs.Runs.{ends_word, is_short_word}
+use Rattle.bqn_token.proofs.Names.{both-left, both-right}
+use Rattle.bqn_token.proofs.Runs.{short-longest}
 use Rattle.bqn_token.specs.declared.single.Alone.{Alone}
 use Rattle.bqn_token.proofs.Alones.{single-done, kind-single}
 use Rattle.bqn_token.proofs.Scan.{after_state, longest-cons}
@@ -200,6 +204,13 @@ alone-kept whole front new place next text cs c a k same parts is shown new_is n
     ∙ ap (λ (ts : List Token). onto ts (tokens_behind 0 (past c place) cs)) (new_is ∙ ap (λ (k : Option Kind). front ++ token_at k place) shown)
     ∙ tokens-alone front place text c cs a parts is
     ∙ same
+
+pub short-kept : (whole : Result (List Token) Refusal) (front new : List Token) (place next : Place) (text cs : List ℕ) (c : ℕ) (k : Kind) → onto front (tokens_behind 0 place text) ≡ whole → text ≡ c ∷ cs → is_short_word c cs ≡ true
+    → kind_of (c ∷ []) ≡ Ok (Some k) → new ≡ front ++ token_at (Some k) place → next ≡ past c place → onto new (tokens_behind 0 next cs) ≡ whole
+short-kept whole front new place next text cs c k same parts short kind new_is next_is =
+    let longest : longest Start text ≡ Some 1 = ap (λ (t : List ℕ). longest Start t) parts ∙ short-longest c cs (both-left (is_plain c) (ends_word cs) short) (both-right (is_plain c) (ends_word cs) short) in
+    piece-kept whole front new place next text (c ∷ []) cs 1 (Some k) same longest (ap (λ (r : Result (Option Kind) Trouble). placed place r) kind)
+    (ap (λ (t : List ℕ). take 1 t) (sym parts)) (ap (λ (t : List ℕ). drop 1 t) (sym parts)) new_is next_is
 
 pub tokens-ok : (bytes text : List ℕ) → text_of bytes ≡ Ok text → tokens_of_text text ≡ tokens_of_source bytes
 tokens-ok bytes text e = sym (ap (λ (r : Result (List ℕ) Refusal). elim r as (λ _. Result (List Token) Refusal) [ Ok t ↦ tokens_of_text t | Err s ↦ Err s ]) e)

@@ -1,5 +1,5 @@
 -- What words stand for that are spelled as the names that they name.
-use Rattle.std.proofs.Common.{◌≡◌, ◌≤◌, ℕ, List, [], ◌∷◌, Bool, true, false, Option, Some, None, Result, Ok, length, refl, sym, ap, ◌∙◌, arith}
+use Rattle.std.proofs.Common.{◌≡◌, ◌≤◌, ◌<◌, ◌+◌, ◌-◌, ℕ, zero, suc, pos, List, [], ◌∷◌, Bool, true, false, Option, Some, None, Result, Ok, length, refl, sym, ap, ◌∙◌, arith}
 use Rattle.std.specs.Prelude.{◌==◌, ◌&&◌, ◌||◌, if◌then◌else◌}
 use Rattle.std.specs.List.{list_all}
 use Rattle.std.proofs.lemmas.Bool.Decides.{nat_tests}
@@ -97,3 +97,33 @@ pub plain-given : (word name : List ℕ) → is_plain_name word ≡ true → nam
 plain-given word name e same = plain-kind word e ∙ ap (λ (n : List ℕ). Ok (Some (kind.Word n Subject))) (sym same)
 
 pub ruleset kind_laws = (plain-all, plain-given)
+
+one-if : (lower digit : Bool) → (lower || digit) ≡ true → digit ≡ false → (lower && ((lower || digit) && true)) ≡ true
+one-if true digit e f = refl
+one-if false true e f = cc
+one-if false false e f = cc
+
+-- what a word of one character stands for
+pub short-letter : (c : ℕ) (name : List ℕ) → is_plain c ≡ true → is_digit c ≡ false → name ≡ c ∷ [] → kind_of (c ∷ []) ≡ Ok (Some (kind.Word name Subject))
+short-letter c name plain digit same = plain-given (c ∷ []) name (one-if (is_lower c) (is_digit c) plain digit) same
+
+digit-at : (n : ℕ) → n < 10 → kind_of ((48 + n) ∷ []) ≡ Ok (Some (kind.Number (pos n)))
+digit-at zero lt = refl
+digit-at (suc zero) lt = refl
+digit-at (suc (suc zero)) lt = refl
+digit-at (suc (suc (suc zero))) lt = refl
+digit-at (suc (suc (suc (suc zero)))) lt = refl
+digit-at (suc (suc (suc (suc (suc zero))))) lt = refl
+digit-at (suc (suc (suc (suc (suc (suc zero)))))) lt = refl
+digit-at (suc (suc (suc (suc (suc (suc (suc zero))))))) lt = refl
+digit-at (suc (suc (suc (suc (suc (suc (suc (suc zero)))))))) lt = refl
+digit-at (suc (suc (suc (suc (suc (suc (suc (suc (suc zero))))))))) lt = refl
+digit-at (suc (suc (suc (suc (suc (suc (suc (suc (suc (suc n)))))))))) lt = absurd (omega arith)
+
+pub short-digit : (c : ℕ) → is_digit c ≡ true → kind_of (c ∷ []) ≡ Ok (Some (kind.Number (pos (c - 48))))
+short-digit c digit =
+    let below : c - 48 < 10 = grind (arith, nat_tests) in
+    let code : c ≡ 48 + (c - 48) = grind (arith, nat_tests) in
+    ap (λ (x : ℕ). kind_of (x ∷ [])) code ∙ digit-at (c - 48) below
+
+pub ruleset short_laws = (short-letter)

@@ -1,13 +1,15 @@
 -- How far comments and words reach, and that the longest piece reaches as far.
 use Rattle.std.proofs.Common.{◌≡◌, ◌≤◌, ◌<◌, ◌+◌, ℕ, zero, suc, List, [], ◌∷◌, Bool, true, false, Option, Some, None, length, drop, get_or, slice_get, drop-cons, refl, sym, ap, ◌∙◌, arith, add-one}
-use Rattle.std.specs.Prelude.{cond, ◌==◌, if◌then◌else◌}
+use Rattle.std.specs.Prelude.{cond, ◌==◌, ◌&&◌, ◌||◌, not, if◌then◌else◌}
 use Rattle.std.specs.Option.{option_map}
 use Rattle.std.proofs.Math.ListN.{drop_of_length-le}
 use Rattle.bqn_syntax.specs.declared.progress.Progress.{Progress}
 use Rattle.bqn_syntax.specs.declared.progress.Progress.TheVariants.{Start, Comment, Word, Digit, Dot}
 use Rattle.bqn_syntax.specs.Table.{is_digit, is_name_start, is_word, within_word, next, is_final}
 use Rattle.bqn_syntax.specs.Cut.{longest, one_more}
-use Rattle.bqn_token.specs.Runs.{line_extent, word_extent}
+use Rattle.bqn_base.specs.Characters.{is_lower, is_upper}
+use Rattle.bqn_base.specs.Names.{is_name_character as is_plain}
+use Rattle.bqn_token.specs.Runs.{ends_word, line_extent, word_extent}
 use Rattle.bqn_token.proofs.Scan.{after_state, longest-cons}
 use Rattle.bqn_token.proofs.Alones.{no_digit, other}
 
@@ -170,3 +172,38 @@ word-longest (c ∷ cs) count e lt = at (is_word c) refl (word_extent cs) refl e
         stop false e = let same : 0 ≡ count = cc in absurd (omega arith)
 
 pub ruleset piece_laws = (comment-longest, word-longest)
+
+pub ends-none : (text : List ℕ) → slice_get text 0 ≡ None → ends_word text ≡ true
+ends-none [] e = refl
+ends-none (c ∷ cs) e = cc
+
+pub ends-at : (text : List ℕ) (c : ℕ) → slice_get text 0 ≡ Some c → ends_word text ≡ (not (is_word c) && not (c == 46))
+ends-at [] c e = cc
+ends-at (d ∷ ds) c e = let same : d ≡ c = cc in ap (λ (x : ℕ). not (is_word x) && not (x == 46)) same
+
+pub ruleset end_laws = (ends-none, ends-at)
+
+short-if : (l u d under r a b e : Bool) → (l || d) ≡ true → (l || u || under || r || d || a || b || e) ≡ true
+short-if true u d under r a b e is = refl
+short-if false true true under r a b e is = refl
+short-if false false true true r a b e is = refl
+short-if false false true false true a b e is = refl
+short-if false false true false false a b e is = refl
+short-if false u false under r a b e is = cc
+
+ends-extent : (text : List ℕ) → ends_word text ≡ true → word_extent text ≡ Some 0
+ends-extent [] e = refl
+ends-extent (c ∷ cs) e = at (is_word c) (c == 46) e
+  where
+    at : (word dot : Bool) → (not word && not dot) ≡ true → cond word (option_map suc (word_extent cs)) (cond dot None (Some 0)) ≡ Some 0
+    at false false e = refl
+    at false true e = cc
+    at true dot e = cc
+
+-- a word of one character is the longest piece
+pub short-longest : (c : ℕ) (text : List ℕ) → is_plain c ≡ true → ends_word text ≡ true → longest Start (c ∷ text) ≡ Some 1
+short-longest c text plain ends =
+    let word : is_word c ≡ true = short-if (is_lower c) (is_upper c) (is_digit c) (c == 95) (c == 120163) (c == 175) (c == 8734) (c == 960) plain in
+    let extent : word_extent (c ∷ text) ≡ Some 1 =
+    ap (λ (b : Bool). cond b (option_map suc (word_extent text)) (cond (c == 46) None (Some 0))) word ∙ ap (λ (o : Option ℕ). option_map suc o) (ends-extent text ends) in
+    word-longest (c ∷ text) 1 extent (omega arith)

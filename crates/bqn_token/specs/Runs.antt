@@ -1,5 +1,5 @@
 -- How far comments and words reach, and words that are spelled as the names that they name.
-use Rattle.std.specs.Prelude.{ℕ, suc, ◌==◌, Bool, false, ◌&&◌, cond, List, [], ◌∷◌, Option, Some, None}
+use Rattle.std.specs.Prelude.{ℕ, suc, ◌==◌, Bool, true, false, not, ◌&&◌, cond, List, [], ◌∷◌, Option, Some, None}
 use Rattle.std.specs.Option.{option_map}
 use Rattle.std.specs.List.{list_all}
 use Rattle.bqn_base.specs.Characters.{is_lower}
@@ -15,6 +15,15 @@ line_extent (c ∷ cs) = cond (c == 10) 0 (suc (line_extent cs))
 abbrev pub word_extent : List ℕ → Option ℕ
 word_extent [] = Some 0
 word_extent (c ∷ cs) = cond (is_word c) (option_map suc (word_extent cs)) (cond (c == 46) None (Some 0))
+
+-- whether neither a character of a word nor a dot stands in front
+abbrev pub ends_word : List ℕ → Bool
+ends_word [] = true
+ends_word (c ∷ cs) = not (is_word c) && not (c == 46)
+
+-- whether a lower-case letter or a digit is a word by itself before a text
+abbrev pub is_short_word : ℕ → List ℕ → Bool
+is_short_word c text = is_name_character c && ends_word text
 
 -- a lower-case letter, and then such letters and digits
 abbrev pub is_plain_name : List ℕ → Bool

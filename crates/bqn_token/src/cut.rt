@@ -5,8 +5,9 @@ ghost use Rattle.bqn_token.specs.Tokenizing.{Tokenizes, token_at};
 
 use crate::error::TokenError;
 use crate::extent::longest_piece;
-use crate::kinds::{kind_at, missing_piece};
+use crate::kinds::{is_short, kind_at, missing_piece, short_kind};
 use crate::place::{FIRST, place_behind, place_past};
+use crate::recent::Recent;
 use crate::single::{kind_of_alone, single};
 use bqn_base::Place;
 use bqn_syntax::{Kind, Token};
@@ -36,6 +37,7 @@ pub(crate) fn tokens_in(alloc: Global, text: &[char]) -> Result<Vec<Token>, Toke
     ensures { Tokenizes (tokens_of_text text.now) result }
 {
     let mut tokens = Vec::with_capacity(alloc, text.len())?;
+    let mut recent = Recent::new(alloc)?;
     let mut rest = text;
     let mut place = FIRST;
     'pieces: while let Some((first, behind)) = rest.split_first() {
@@ -46,11 +48,18 @@ pub(crate) fn tokens_in(alloc: Global, text: &[char]) -> Result<Vec<Token>, Toke
             rest = behind;
             continue;
         }
+        if is_short(first, behind) {
+            let kind = short_kind(&mut recent, first)?;
+            add(&mut tokens, Some(kind), place);
+            place = place_past(first, place);
+            rest = behind;
+            continue;
+        }
         let Some(count) = longest_piece(rest) else {
             return Err(TokenError::Refused(missing_piece(first, place)));
         };
         let (piece, after) = rest.split_at(count);
-        match kind_at(alloc, piece, place) {
+        match kind_at(alloc, &mut recent, piece, place) {
             Ok(kind) => add(&mut tokens, kind, place),
             Err(error) => return Err(error),
         }

@@ -1,7 +1,7 @@
 ghost use Rattle.std.specs.Prelude.{◌≡◌, ◌||◌};
 ghost use Rattle.bqn_syntax.specs.Table.{first_state, is_digit, is_final, is_letter, is_name_start, is_word, next, within_word};
 ghost use Rattle.bqn_syntax.specs.Cut.{longest};
-ghost use Rattle.bqn_token.specs.Runs.{line_extent, word_extent};
+ghost use Rattle.bqn_token.specs.Runs.{ends_word, line_extent, word_extent};
 ghost use Rattle.bqn_syntax.specs.declared.progress.Progress.TheVariants.{Start};
 
 use crate::single::is_single;
@@ -36,6 +36,18 @@ pub(crate) fn may_stand_in_word(c: char) -> bool
     ensures { result ≡ is_word c }
 {
     may_start_name(c) || is_a_digit(c) || c == '¯' || c == '∞' || c == 'π'
+}
+
+/// Whether neither a character of a word nor a dot stands in front.
+#[inline(always)]
+#[tactic(auto, using(crate::proofs::Runs::end_laws))]
+pub(crate) fn word_ends(text: &[char]) -> bool
+    ensures { result ≡ ends_word text.now }
+{
+    match text.first() {
+        Some(c) => !may_stand_in_word(*c) && *c != '.',
+        None => true,
+    }
 }
 
 fn first_progress(c: char) -> Option<Progress>

@@ -1,16 +1,21 @@
-ghost use Rattle.std.specs.Prelude.{◌≡◌, IfOk, IfSome, IsTrue};
-ghost use Rattle.bqn_base.specs.Literal.{Number, literal, unquoted};
+ghost use Rattle.std.specs.Prelude.{◌≡◌, IfOk, IsTrue, Ok, Some, [], ◌∷◌};
+ghost use Rattle.bqn_base.specs.Literal.{literal, unquoted};
+ghost use Rattle.bqn_base.specs.Names.{is_name_character as is_plain};
 ghost use Rattle.bqn_syntax.specs.Table.{is_piece, is_piece_from};
 ghost use Rattle.bqn_syntax.specs.Tokens.{all_but_last, kind_of, name_kind, no_piece, number_kind, quoted, refused_at};
 ghost use Rattle.bqn_syntax.specs.declared.progress.Progress.TheVariants.{Inside};
 ghost use Rattle.bqn_syntax.specs.declared.token.Kind.TheVariants as kind;
+ghost use Rattle.bqn_token.specs.Runs.{is_short_word};
 ghost use Rattle.bqn_token.specs.Tokenizing.{Gives, placed};
 
 use crate::error::TokenError;
-use crate::extent::{is_a_digit, may_start_name};
+use crate::extent::{is_a_digit, may_start_name, word_ends};
+use crate::recent::Recent;
 use crate::single::{kind_of_alone, single};
-use crate::words::{is_plainly_named, kind_of_system_word, kind_of_word, plain_kind};
-use bqn_base::{Memory, Place, Refusal};
+use crate::words::{
+    is_plain_character, is_plainly_named, kind_of_system_word, kind_of_word, plain_kind,
+};
+use bqn_base::{Memory, Place, Refusal, Role};
 use bqn_literal::{NumberError, number, string};
 use bqn_syntax::Kind;
 use std::alloc::Global;
@@ -65,25 +70,11 @@ fn named(kind: Option<Kind>, place: Place) -> Result<Option<Kind>, TokenError>
     }
 }
 
-/// The number that a word of one digit denotes.
-fn one_digit(word: &[char]) -> Option<i64>
-    ensures { IfSome result (λ digit. literal word.now ≡ Number digit) }
-{
-    let (first, behind) = word.split_first()?;
-    if !behind.is_empty() || !is_a_digit(*first) {
-        return None;
-    }
-    Some(i64::from(*first as u32 - '0' as u32))
-}
-
 /// The number that a word denotes.
 #[tactic(auto, using(crate::proofs::Meanings::number_laws))]
 fn numeric(word: &[char], place: Place) -> Result<Option<Kind>, TokenError>
     ensures { Gives (placed place (number_kind (literal word.now))) result }
 {
-    if let Some(digit) = one_digit(word) {
-        return Ok(Some(Kind::Number(digit)));
-    }
     match number(word) {
         Ok(number) => Ok(Some(Kind::Number(number))),
         Err(NumberError::Bad) => Err(TokenError::Refused(Refusal::BadNumber(place))),
@@ -92,7 +83,12 @@ fn numeric(word: &[char], place: Place) -> Result<Option<Kind>, TokenError>
 }
 
 /// What a piece at a place stands for: nothing for a blank or a comment, or a token.
-fn any_kind_at(alloc: Global, piece: &[char], place: Place) -> Result<Option<Kind>, TokenError>
+fn any_kind_at(
+    alloc: Global,
+    recent: &mut Recent,
+    piece: &[char],
+    place: Place,
+) -> Result<Option<Kind>, TokenError>
     requires { IsTrue (is_piece piece.now) }
     ensures { Gives (placed place (kind_of piece.now)) result }
 {
@@ -114,11 +110,11 @@ fn any_kind_at(alloc: Global, piece: &[char], place: Place) -> Result<Option<Kin
         return Ok(Some(text));
     }
     if first == '•' {
-        let kind = kind_of_system_word(alloc, behind)?;
+        let kind = kind_of_system_word(alloc, recent, behind)?;
         return named(kind, place);
     }
     if may_start_name(first) {
-        let kind = kind_of_word(alloc, piece)?;
+        let kind = kind_of_word(alloc, recent, piece)?;
         return named(kind, place);
     }
     numeric(piece, place)
@@ -132,6 +128,7 @@ fn any_kind_at(alloc: Global, piece: &[char], place: Place) -> Result<Option<Kin
 #[inline(always)]
 pub(crate) fn kind_at(
     alloc: Global,
+    recent: &mut Recent,
     piece: &[char],
     place: Place,
 ) -> Result<Option<Kind>, TokenError>
@@ -139,8 +136,30 @@ pub(crate) fn kind_at(
     ensures { Gives (placed place (kind_of piece.now)) result }
 {
     if is_plainly_named(piece) {
-        let kind = plain_kind(alloc, piece)?;
+        let kind = plain_kind(recent, piece)?;
         return Ok(Some(kind));
     }
-    any_kind_at(alloc, piece, place)
+    any_kind_at(alloc, recent, piece, place)
+}
+
+/// Whether a lower-case letter or a digit is a word by itself before this text.
+#[inline(always)]
+pub(crate) fn is_short(first: char, behind: &[char]) -> bool
+    ensures { result ≡ is_short_word first behind.now }
+{
+    is_plain_character(first) && word_ends(behind)
+}
+
+/// What such a word stands for.
+#[inline(always)]
+#[tactic(auto, using(crate::proofs::Plain::short_laws))]
+pub(crate) fn short_kind(recent: &mut Recent, c: char) -> Result<Kind, Memory>
+    requires { IsTrue (is_plain c) }
+    ensures { IfOk result (λ kind. kind_of (c ∷ []) ≡ Ok (Some kind)) }
+{
+    if is_a_digit(c) {
+        return Ok(Kind::Number(i64::from(c as u32 - '0' as u32)));
+    }
+    let name = recent.letter(c)?;
+    Ok(Kind::Word(name, Role::Subject))
 }

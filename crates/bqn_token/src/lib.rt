@@ -6,6 +6,7 @@ mod error;
 mod extent;
 mod kinds;
 mod place;
+mod recent;
 mod single;
 mod source;
 mod text;

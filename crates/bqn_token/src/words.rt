@@ -7,6 +7,7 @@ ghost use Rattle.bqn_syntax.specs.Words.{begins_with_letter, is_modifier_word, i
 ghost use Rattle.bqn_token.specs.Runs.{is_plain_name};
 
 use crate::extent::{is_a_digit, is_a_letter};
+use crate::recent::Recent;
 use bqn_base::{Memory, Name, Role};
 use bqn_roles::role;
 use bqn_syntax::{Kind, Special};
@@ -55,11 +56,16 @@ fn is_a_small_letter(c: char) -> bool
     c.is_ascii_lowercase()
 }
 
+pub(crate) fn is_plain_character(c: char) -> bool
+    ensures { result ≡ is_plain c }
+{
+    is_a_small_letter(c) || is_a_digit(c)
+}
+
 fn is_spelled_plainly(word: &[char]) -> bool
     ensures { result ≡ list_all is_plain word.now }
 {
-    word.iter()
-        .all(|c| c.is_ascii_lowercase() || is_a_digit(*c))
+    word.iter().all(|c| is_plain_character(*c))
 }
 
 /// Whether the word is a lower-case letter and then such letters and digits.
@@ -79,11 +85,11 @@ pub(crate) fn is_plainly_named(word: &[char]) -> bool
 /// What such a word stands for.
 #[inline(always)]
 #[tactic(auto, using(crate::proofs::Plain::kind_laws))]
-pub(crate) fn plain_kind(alloc: Global, word: &[char]) -> Result<Kind, Memory>
+pub(crate) fn plain_kind(recent: &mut Recent, word: &[char]) -> Result<Kind, Memory>
     requires { IsTrue (is_plain_name word.now) }
     ensures { IfOk result (λ kind. kind_of word.now ≡ Ok (Some kind)) }
 {
-    let name = Name::new(alloc, word)?;
+    let name = recent.name(word)?;
     Ok(Kind::Word(name, Role::Subject))
 }
 
@@ -106,27 +112,27 @@ fn lower_letters(alloc: Global, word: &[char]) -> Result<Vec<char>, AllocError>
 /// The name that a word spells with capitals or underscores.
 #[inline(never)]
 #[tactic(auto, using(crate::proofs::Names::name_laws))]
-fn respelled(alloc: Global, word: &[char]) -> Result<Name, Memory>
+fn respelled(alloc: Global, recent: &mut Recent, word: &[char]) -> Result<Name, Memory>
     requires { IsTrue (list_all is_name_character word.now) }
     ensures { IfOk result (λ name. name ≡ name_of word.now) }
 {
     let Ok(letters) = lower_letters(alloc, word) else {
         return Err(Memory);
     };
-    Name::new(alloc, letters.as_slice())
+    recent.name(letters.as_slice())
 }
 
 /// The name that a word spells: without case and underscores.
 #[inline(always)]
 #[tactic(auto, using(crate::proofs::Names::name_laws))]
-fn name(alloc: Global, word: &[char]) -> Result<Name, Memory>
+fn name(alloc: Global, recent: &mut Recent, word: &[char]) -> Result<Name, Memory>
     requires { IsTrue (list_all is_name_character word.now) }
     ensures { IfOk result (λ name. name ≡ name_of word.now) }
 {
     if is_spelled_plainly(word) {
-        Name::new(alloc, word)
+        recent.name(word)
     } else {
-        respelled(alloc, word)
+        respelled(alloc, recent, word)
     }
 }
 
@@ -139,11 +145,15 @@ fn is_a_modifier_word(word: &[char]) -> bool
 
 /// What a word stands for, or none where it is no name.
 #[tactic(auto, using(crate::proofs::Names::word_laws))]
-pub(crate) fn kind_of_word(alloc: Global, word: &[char]) -> Result<Option<Kind>, Memory>
+pub(crate) fn kind_of_word(
+    alloc: Global,
+    recent: &mut Recent,
+    word: &[char],
+) -> Result<Option<Kind>, Memory>
     ensures { IfOk result (λ kind. kind ≡ word_kind word.now) }
 {
     if is_a_name_word(word) {
-        let name = name(alloc, word)?;
+        let name = name(alloc, recent, word)?;
         return Ok(Some(Kind::Word(name, role(word))));
     }
     if is_a_modifier_word(word) {
@@ -153,12 +163,16 @@ pub(crate) fn kind_of_word(alloc: Global, word: &[char]) -> Result<Option<Kind>,
 }
 
 /// What a word behind `•` stands for, or none where it is no name.
-pub(crate) fn kind_of_system_word(alloc: Global, word: &[char]) -> Result<Option<Kind>, Memory>
+pub(crate) fn kind_of_system_word(
+    alloc: Global,
+    recent: &mut Recent,
+    word: &[char],
+) -> Result<Option<Kind>, Memory>
     ensures { IfOk result (λ kind. kind ≡ system_kind word.now) }
 {
     if !is_a_name_word(word) {
         return Ok(None);
     }
-    let name = name(alloc, word)?;
+    let name = name(alloc, recent, word)?;
     Ok(Some(Kind::System(name, role(word))))
 }

@@ -1,5 +1,7 @@
 use Rattle.std.proofs.Common.{◌≡◌, ◌++◌, ◌∷◌, [], ◌∙◌, map, reverse, ap, sym, rules, Ok}
 use Rattle.bqn_syntax.specs.Parsing as parsing
+use Rattle.bqn_syntax.specs.Items.{Standing}
+use Rattle.bqn_parse.specs.declared.level.Level.{Level}
 use Rattle.bqn_parse.specs.Views.{element_of}
 use Rattle.bqn_parse.specs.Walking.{level_shown}
 use Rattle.bqn_parse.proofs.Closing.{around-shown}
@@ -11,5 +13,6 @@ returns c = λ tokens.
     let rest = c.pop.new.self.items in
     let around = c.in-Some.around in
     let e : outer ≡ rest ++ around ∷ [] = search rules in
+    let replaced : c.replace-items.new.dest ≡ around = cc in
     ap (parsing.handed c.args.place (Ok (element_of c.args.element))) (around-shown tokens outer rest around e)
-    ∙ ap (λ (l : parsing.Level). Ok (parsing.levels l (map (level_shown tokens) (reverse rest)))) (sym (c.in_ok-and_item.ensures tokens))
+    ∙ ap (λ (l : parsing.Level). Ok (parsing.levels l (map (level_shown tokens) (reverse rest)))) (ap (λ (l : Level). parsing.and_item (Standing (element_of c.args.element)) (level_shown tokens l)) (sym replaced) ∙ sym (c.in_ok-and_item.ensures tokens))

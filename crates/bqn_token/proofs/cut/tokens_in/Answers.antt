@@ -1,7 +1,7 @@
 use Rattle.std.proofs.Common.{ℕ, List, Err, subst, sym, ◌∙◌, arith}
 use Rattle.bqn_syntax.specs.Tokens.{kind_of, tokens_of_text}
 use Rattle.bqn_token.specs.Tokenizing.{Gives, placed}
-use Rattle.bqn_token.proofs.Pieces.{error-at, longest-some, longest-inside, alone-kept, piece-kept, line-past, column-past, line-behind-is, column-behind-is}
+use Rattle.bqn_token.proofs.Pieces.{error-at, longest-some, longest-inside, alone-kept, short-kept, piece-kept, line-past, column-past, line-behind-is, column-behind-is}
 use Rattle.bqn_token.proofs.cut.tokens_in.Goals as goal
 
 pub returns-in-Err : goal.returns-in-Err
@@ -17,6 +17,19 @@ pieces-preserved-in-Some-single c =
     let column = column-past c.in-Some.first.now c.pieces.place c.place_past-place.result c.place_past-place.ensures in
     record {
       same = alone-kept (tokens_of_text c.args.text.now) c.pieces.tokens.items c.add.new.tokens.items c.pieces.place c.place_past-place.result c.pieces.rest.now c.in-Some.behind.now c.in-Some.first.now c.in-Some-single.alone c.kind_of_alone.result c.pieces.invariant.same parts (sym c.single.ensures ∙ c.in-Some-single.is) c.kind_of_alone.ensures c.add.ensures.added c.place_past-place.ensures;
+      line = omega arith;
+      column = omega arith;
+      room = omega arith;
+    }
+
+pub pieces-preserved-then-is_short : goal.pieces-preserved-then-is_short
+pieces-preserved-then-is_short c =
+    let parts = c.in-Some.ensures.cases.0 in
+    let more = c.in-Some.ensures.cases.1 in
+    let line = line-past c.in-Some.first.now c.pieces.place c.place_past-place-then-is_short.result c.place_past-place-then-is_short.ensures in
+    let column = column-past c.in-Some.first.now c.pieces.place c.place_past-place-then-is_short.result c.place_past-place-then-is_short.ensures in
+    record {
+      same = short-kept (tokens_of_text c.args.text.now) c.pieces.tokens.items c.add-then-is_short.new.tokens.items c.pieces.place c.place_past-place-then-is_short.result c.pieces.rest.now c.in-Some.behind.now c.in-Some.first.now c.in_ok-kind.kind c.pieces.invariant.same parts (sym c.is_short.ensures ∙ c.if-is_short.true) c.in_ok-kind.ensures c.add-then-is_short.ensures.added c.place_past-place-then-is_short.ensures;
       line = omega arith;
       column = omega arith;
       room = omega arith;
