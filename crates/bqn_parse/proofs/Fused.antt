@@ -13,8 +13,8 @@ use Rattle.bqn_syntax.specs.Sorts.{tag, same_tag, is_word}
 use Rattle.bqn_syntax.specs.Units.{Unit', Row, row, Free, bind, binds, bound}
 use Rattle.bqn_parse.specs.Fused as fused
 use Rattle.bqn_parse.specs.Fused.{Piece, piece, with_term, next_at, drawn, put, ended, units_if, units_with}
-use Rattle.bqn_parse.specs.Following.{behind_of}
-use Rattle.bqn_parse.specs.declared.terms.Behind.TheVariants.{Draws, Else}
+use Rattle.bqn_parse.specs.Following.{behind_of, ends_before}
+use Rattle.bqn_parse.specs.declared.following.Behind.TheVariants.{Draws, Else}
 use Rattle.bqn_parse.specs.declared.item.Item.{Item as CodeItem}
 use Rattle.bqn_parse.specs.Views.{item_of, items_of, when}
 
@@ -182,12 +182,12 @@ pub units_if-next : (fine : Bool) (next : Piece) (given : Option Piece) (items :
 units_if-next true next given items e = ap (λ (o : Option Piece). option_and_then (λ (p : Piece). units_with p items) o) e
 units_if-next false next given items e = ap (λ (o : Option Piece). option_and_then (λ (p : Piece). units_with p items) o) e
 
-units_if-row : (fine : Bool) (next : Row) (given : Option Row) (items : List Item) → when fine next ≡ given → units_if fine (piece next Between) items ≡ option_and_then (λ (n : Row). units_with (piece n Between) items) given
+pub units_if-row : (fine : Bool) (next : Row) (given : Option Row) (items : List Item) → when fine next ≡ given → units_if fine (piece next Between) items ≡ option_and_then (λ (n : Row). units_with (piece n Between) items) given
 units_if-row true next given items e = ap (λ (o : Option Row). option_and_then (λ (n : Row). units_with (piece n Between) items) o) e
 units_if-row false next given items e = ap (λ (o : Option Row). option_and_then (λ (n : Row). units_with (piece n Between) items) o) e
 
 -- where no joiner, dot or arrow follows, an element ends with the item in front of which it stands
-plain-now : (row : Row) (y : Element) (items : List Item) → behind_of items ≡ Else
+pub plain-now : (row : Row) (y : Element) (items : List Item) → behind_of items ≡ Else
     → option_and_then (λ (n : Row). units_with (piece n Between) items) (with_term row (plain_term [] y)) ≡ units_with (piece row Between) (Standing y ∷ items)
 plain-now row y [] e = refl
 plain-now row y (Standing z ∷ items) e = at (with_term row (plain_term [] y))
@@ -200,7 +200,7 @@ plain-now row y (Drawn a ∷ items) e = absurd (cc)
 plain-now row y (Joining ∷ items) e = absurd (cc)
 plain-now row y (Selecting ∷ items) e = absurd (cc)
 
-aimed-now : (row : Row) (y : Element) (items : List Item) → behind_of items ≡ Draws
+pub aimed-now : (row : Row) (y : Element) (items : List Item) → behind_of items ≡ Draws
     → option_and_then (λ (n : Row). units_with (piece n Between) items) (with_term row (aimed_term [] y)) ≡ units_with (piece row Between) (Standing y ∷ items)
 aimed-now row y (Drawn a ∷ items) e = at (with_term row (aimed_term [] y))
   where
@@ -244,6 +244,10 @@ pub behind-none : (left : List CodeItem) → length left ≡ 0 → behind_of (it
 behind-none [] e = refl
 behind-none (x ∷ left) e = absurd (omega arith)
 
-pub ruleset behind_laws = (behind-none, items-last)
+pub ends-none : (left : List CodeItem) → length left ≡ 0 → ends_before (items_of (reverse left)) ≡ true
+ends-none [] e = refl
+ends-none (x ∷ left) e = absurd (omega arith)
+
+pub ruleset behind_laws = (behind-none, ends-none, items-last)
 
 pub ruleset loop_laws = (units_with-more, units_with-stuck, units_with-all)

@@ -11,6 +11,7 @@ pub mod Stepping
 pub mod Walking
 pub mod Backward
 pub mod Fused
+pub mod Settled
 pub mod Expressions
 pub mod Leftward
 pub mod Singles

@@ -1,9 +1,11 @@
 -- A walk over tokens, token by token.
-use Rattle.std.proofs.Common.{◌≡◌, ◌<◌, ◌≤◌, ◌+◌, ℕ, suc, zero, List, [], ◌∷◌, Result, Ok, Err, length, drop, get_or, drop-cons, add-one, map, reverse, refl, subst, sym, ap, ◌∙◌, arith}
+use Rattle.std.proofs.Common.{◌≡◌, ◌<◌, ◌≤◌, ◌+◌, ℕ, suc, List, [], ◌∷◌, Result, Ok, Err, length, drop, get_or, drop-cons, add-one, map, reverse, refl, subst, sym, ap, ◌∙◌, arith}
 use Rattle.std.proofs.Math.ListN.{drop_of_length-le}
 use Rattle.bqn_base.specs.declared.refusal.Refusal.{Refusal}
 use Rattle.bqn_base.specs.declared.refusal.Refusal.TheVariants as refusal
 use Rattle.bqn_syntax.specs.declared.token.Token.{Token}
+use Rattle.bqn_syntax.specs.declared.sort.Sort.{Sort}
+use Rattle.bqn_syntax.specs.declared.sort.Sort.TheVariants.{Opens, Closes, Separates, Draws, Joins, Selects, Ends, Heads, Asks, Skips, Stands}
 use Rattle.bqn_syntax.specs.Sorts.{sort_of}
 use Rattle.bqn_syntax.specs.Brackets.{partners_of}
 use Rattle.bqn_syntax.specs.Looks as plain
@@ -14,7 +16,7 @@ use Rattle.bqn_syntax.specs.Grammar.{WellTreesAreFound, OnlyWellTreesAreFound, W
 use Rattle.bqn_syntax.specs.Plain.{Stmts, stmts, tree_of}
 use Rattle.bqn_parse.specs.declared.looks.Ahead.{Ahead}
 use Rattle.bqn_parse.specs.declared.level.Level.{Level}
-use Rattle.bqn_parse.specs.Looking.{ahead_shown, aheads_of}
+use Rattle.bqn_parse.specs.Looking.{ahead_by, ahead_shown, left_behind, openings, stacked, with_opening}
 use Rattle.bqn_parse.specs.declared.error.ParseError.{ParseError}
 use Rattle.bqn_parse.specs.declared.error.ParseError.TheVariants.{Refused, Memory}
 use Rattle.bqn_parse.specs.Views.{Finds, Gives}
@@ -41,36 +43,33 @@ program-whole tokens outer answer l e none = ap (parsing.program_of (map (level_
 
 pub ruleset finish_laws = (program-refused, program-open, program-whole)
 
--- What stands behind the bracket of each token.
+-- What stands behind the bracket that a token opens.
 
-length-aheads : (tokens : List Token) → length (aheads_of tokens) ≡ length tokens
-length-aheads [] = refl
-length-aheads (t ∷ tokens) = ap (λ (n : ℕ). suc n) (length-aheads tokens)
+step-by : (s : Sort) (a : plain.Ahead) (all : List plain.Ahead) (token : Token) (tokens : List Token) (so : parsing.Levels) → parsing.step s a token tokens so ≡ parsing.step s (ahead_by s (with_opening s a all)) token tokens so
+step-by (Opens b) a all token tokens so = refl
+step-by (Closes b) a all token tokens so = refl
+step-by Separates a all token tokens so = refl
+step-by (Draws arrow) a all token tokens so = refl
+step-by Joins a all token tokens so = refl
+step-by Selects a all token tokens so = refl
+step-by Ends a all token tokens so = refl
+step-by Heads a all token tokens so = refl
+step-by Asks a all token tokens so = refl
+step-by Skips a all token tokens so = refl
+step-by Stands a all token tokens so = refl
 
-length-shown : (all : List Ahead) → length (map ahead_shown all) ≡ length all
-length-shown [] = refl
-length-shown (a ∷ all) = ap (λ (n : ℕ). suc n) (length-shown all)
-
-pub behind-known : (tokens : List Token) (all : List Ahead) → map ahead_shown all ≡ aheads_of tokens → length all ≡ length tokens
-behind-known tokens all e = sym (length-shown all) ∙ ap length e ∙ length-aheads tokens
-
-get_or-shown : (all : List Ahead) (i : ℕ) (a : Ahead) → get_or (map ahead_shown all) i (ahead_shown a) ≡ ahead_shown (get_or all i a)
-get_or-shown [] i a = refl
-get_or-shown (b ∷ all) zero a = refl
-get_or-shown (b ∷ all) (suc i) a = get_or-shown all i a
-
-get_or-aheads : (tokens : List Token) (i : ℕ) (d : plain.Ahead) → i < length tokens → get_or (aheads_of tokens) i d ≡ plain.behind_group (drop (suc i) tokens)
-get_or-aheads [] i d inside = absurd (omega arith)
-get_or-aheads (t ∷ tokens) zero d inside = refl
-get_or-aheads (t ∷ tokens) (suc i) d inside = get_or-aheads tokens i d (omega arith)
-
-behind-at : (tokens : List Token) (all : List Ahead) (index : ℕ) (a : Ahead) → map ahead_shown all ≡ aheads_of tokens → index < length tokens → a ≡ get_or all index a → ahead_shown a ≡ plain.behind_group (drop (index + 1) tokens)
-behind-at tokens all index a e inside is =
-    ap ahead_shown is
-    ∙ sym (get_or-shown all index a)
-    ∙ ap (λ (xs : List plain.Ahead). get_or xs index (ahead_shown a)) e
-    ∙ get_or-aheads tokens index (ahead_shown a) inside
-    ∙ ap (λ (n : ℕ). plain.behind_group (drop n tokens)) (sym (add-one index))
+left-by : (s : Sort) (a : plain.Ahead) (all : List plain.Ahead) → left_behind s (with_opening s a all) ≡ all
+left-by (Opens b) a all = refl
+left-by (Closes b) a all = refl
+left-by Separates a all = refl
+left-by (Draws arrow) a all = refl
+left-by Joins a all = refl
+left-by Selects a all = refl
+left-by Ends a all = refl
+left-by Heads a all = refl
+left-by Asks a all = refl
+left-by Skips a all = refl
+left-by Stands a all = refl
 
 -- The walk.
 
@@ -86,40 +85,54 @@ walk-cons so token tokens = at (parsing.step (sort_of token.kind) (plain.behind_
     at (Err r) = refl
 
 -- the walk so far does what the rest of the tokens wants
-pub record Going (index : ℕ) (so : parsing.Levels) (tokens : List Token) : Type 0 where
+pub record Going (index : ℕ) (left : List Ahead) (so : parsing.Levels) (tokens : List Token) : Type 0 where
   pub same : parsing.walk so (drop index tokens) ≡ parsing.walk start tokens
+  pub known : stacked left ≡ openings (drop index tokens)
 
-pub going-start : (so : parsing.Levels) (tokens : List Token) → so ≡ start → Going 0 so tokens
-going-start so tokens e = record { same = ap (λ (l : parsing.Levels). parsing.walk l tokens) e }
+pub going-start : (left : List Ahead) (so : parsing.Levels) (tokens : List Token) → so ≡ start → stacked left ≡ openings tokens → Going 0 left so tokens
+going-start left so tokens e known = record { same = ap (λ (l : parsing.Levels). parsing.walk l tokens) e; known = known }
 
-going-answer : (index : ℕ) (so : parsing.Levels) (tokens : List Token) (all : List Ahead) (token : Token) (a : Ahead) → Going index so tokens → map ahead_shown all ≡ aheads_of tokens → index < length tokens → token ≡ get_or tokens index token → a ≡ get_or all index a
+token-next : (index : ℕ) (tokens : List Token) (token : Token) → index < length tokens → token ≡ get_or tokens index token → drop index tokens ≡ token ∷ drop (index + 1) tokens
+token-next index tokens token inside is =
+    drop-cons tokens index token inside
+    ∙ ap (λ (t : Token). t ∷ drop (suc index) tokens) (sym is)
+    ∙ ap (λ (n : ℕ). token ∷ drop n tokens) (sym (add-one index))
+
+going-answer : (index : ℕ) (left : List Ahead) (so : parsing.Levels) (tokens : List Token) (token : Token) (a : Ahead) → Going index left so tokens → index < length tokens → token ≡ get_or tokens index token
+    → ahead_shown a ≡ ahead_by (sort_of token.kind) (stacked left)
     → parsing.walk start tokens ≡ going_on (parsing.step (sort_of token.kind) (ahead_shown a) token (drop index tokens) so) (drop (index + 1) tokens)
-going-answer index so tokens all token a going known inside is at =
+going-answer index left so tokens token a going inside is at =
     let rest = drop (index + 1) tokens in
-    let e : drop index tokens ≡ token ∷ rest = drop-cons tokens index token inside ∙ ap (λ (t : Token). t ∷ drop (suc index) tokens) (sym is) ∙ ap (λ (n : ℕ). token ∷ drop n tokens) (sym (add-one index)) in
+    let s = sort_of token.kind in
+    let e = token-next index tokens token inside is in
+    let b : ahead_shown a ≡ ahead_by s (openings (token ∷ rest)) = at ∙ ap (ahead_by s) (going.known ∙ ap openings e) in
     sym going.same
     ∙ ap (parsing.walk so) e
     ∙ walk-cons so token rest
-    ∙ ap (λ (b : plain.Ahead). going_on (parsing.step (sort_of token.kind) b token (token ∷ rest) so) rest) (sym (behind-at tokens all index a known inside at))
-    ∙ ap (λ (ts : List Token). going_on (parsing.step (sort_of token.kind) (ahead_shown a) token ts so) rest) (sym e)
+    ∙ ap (λ (answer : Result parsing.Levels Refusal). going_on answer rest) (step-by s (plain.behind_group rest) (openings rest) token (token ∷ rest) so ∙ ap (λ (b : plain.Ahead). parsing.step s b token (token ∷ rest) so) (sym b))
+    ∙ ap (λ (ts : List Token). going_on (parsing.step s (ahead_shown a) token ts so) rest) (sym e)
 
-pub going-step : (index : ℕ) (so next : parsing.Levels) (tokens : List Token) (all : List Ahead) (token : Token) (a : Ahead) → Going index so tokens → map ahead_shown all ≡ aheads_of tokens → index < length tokens → token ≡ get_or tokens index token → a ≡ get_or all index a
-    → parsing.step (sort_of token.kind) (ahead_shown a) token (drop index tokens) so ≡ Ok next → Going (index + 1) next tokens
-going-step index so next tokens all token a going known inside is at e = record { same = sym (going-answer index so tokens all token a going known inside is at ∙ ap (λ (answer : Result parsing.Levels Refusal). going_on answer (drop (index + 1) tokens)) e) }
+pub going-step : (index : ℕ) (left more : List Ahead) (so next : parsing.Levels) (tokens : List Token) (token : Token) (a : Ahead) → Going index left so tokens → index < length tokens → token ≡ get_or tokens index token
+    → ahead_shown a ≡ ahead_by (sort_of token.kind) (stacked left) → stacked more ≡ left_behind (sort_of token.kind) (stacked left)
+    → parsing.step (sort_of token.kind) (ahead_shown a) token (drop index tokens) so ≡ Ok next → Going (index + 1) more next tokens
+going-step index left more so next tokens token a going inside is at rest e =
+    let s = sort_of token.kind in
+    let behind = drop (index + 1) tokens in
+    record {
+      same = sym (going-answer index left so tokens token a going inside is at ∙ ap (λ (answer : Result parsing.Levels Refusal). going_on answer behind) e);
+      known = rest ∙ ap (left_behind s) (going.known ∙ ap openings (token-next index tokens token inside is)) ∙ left-by s (plain.behind_group behind) (openings behind);
+    }
 
-going-refused : (index : ℕ) (so : parsing.Levels) (tokens : List Token) (all : List Ahead) (token : Token) (a : Ahead) (r : Refusal) → Going index so tokens → map ahead_shown all ≡ aheads_of tokens → index < length tokens → token ≡ get_or tokens index token → a ≡ get_or all index a
-    → parsing.step (sort_of token.kind) (ahead_shown a) token (drop index tokens) so ≡ Err r → parsing.walk start tokens ≡ Err r
-going-refused index so tokens all token a r going known inside is at e = going-answer index so tokens all token a going known inside is at ∙ ap (λ (answer : Result parsing.Levels Refusal). going_on answer (drop (index + 1) tokens)) e
-
-pub going-failed : (index : ℕ) (so new : parsing.Levels) (tokens : List Token) (all : List Ahead) (token : Token) (a : Ahead) (error : ParseError) → Going index so tokens → map ahead_shown all ≡ aheads_of tokens → index < length tokens → token ≡ get_or tokens index token → a ≡ get_or all index a
+pub going-failed : (index : ℕ) (left : List Ahead) (so new : parsing.Levels) (tokens : List Token) (token : Token) (a : Ahead) (error : ParseError) → Going index left so tokens → index < length tokens → token ≡ get_or tokens index token
+    → ahead_shown a ≡ ahead_by (sort_of token.kind) (stacked left)
     → Moves {X = Unit {0}} (parsing.step (sort_of token.kind) (ahead_shown a) token (drop index tokens) so) new (Err error) → Gives (parsing.walk start tokens) (Err error)
-going-failed index so new tokens all token a (Refused r) going known inside is at moves = going-refused index so tokens all token a r going known inside is at moves
-going-failed index so new tokens all token a Memory going known inside is at moves = tt
+going-failed index left so new tokens token a (Refused r) going inside is at moves = going-answer index left so tokens token a going inside is at ∙ ap (λ (answer : Result parsing.Levels Refusal). going_on answer (drop (index + 1) tokens)) moves
+going-failed index left so new tokens token a Memory going inside is at moves = tt
 
-pub going-end : (index : ℕ) (so : parsing.Levels) (tokens : List Token) → Going index so tokens → length tokens ≤ index → parsing.walk start tokens ≡ parsing.program_of so.outer (parsing.ended parsing.nowhere so.level)
-going-end index so tokens going outside = sym going.same ∙ ap (parsing.walk so) (drop_of_length-le tokens outside)
+pub going-end : (index : ℕ) (left : List Ahead) (so : parsing.Levels) (tokens : List Token) → Going index left so tokens → length tokens ≤ index → parsing.walk start tokens ≡ parsing.program_of so.outer (parsing.ended parsing.nowhere so.level)
+going-end index left so tokens going outside = sym going.same ∙ ap (parsing.walk so) (drop_of_length-le tokens outside)
 
-pub ruleset walk_laws = (behind-known, going-start)
+pub ruleset walk_laws = (going-start)
 
 -- The brackets come first.
 

@@ -13,7 +13,7 @@ field_of f = Field (part_of f.base) f.names.items
 
 abbrev pub draft_of : Draft → Part
 draft_of (draft.Token t) = Leaf t.now
-draft_of (draft.Nothing place) = Nothing place
+draft_of (draft.Nothing skip) = Nothing skip.now.place
 draft_of (draft.List es) = Elements (exprs (map expr_of es))
 draft_of (draft.Merge es) = Merge (exprs (map expr_of es))
 draft_of (draft.Paren e) = Paren (expr_of e)

@@ -6,7 +6,7 @@ ghost use Rattle.bqn_parse.specs.Drafts.{draft_of, field_of, function_of, modifi
 
 use crate::ends::shrunk;
 use crate::tags::{tag_of_class, tag_of_expr, tag_of_last};
-use bqn_base::{Memory, Place, Row};
+use bqn_base::{Memory, Row};
 use bqn_syntax::{BlockTree, Derived, Expr, ModUse, Part, Tag, Token};
 use sqlite_items::Boxed;
 use std::alloc::Global;
@@ -23,7 +23,7 @@ pub struct Field {
 pub enum Draft<'t> {
     Token(&'t Token),
     /// `·`
-    Nothing(Place),
+    Nothing(&'t Token),
     List(Boxed<Row<Expr>>),
     Merge(Boxed<Row<Expr>>),
     Paren(Boxed<Expr>),
@@ -77,7 +77,19 @@ pub fn part(alloc: Global, draft: Draft<'_>) -> Result<Part, Memory>
 {
     match draft {
         Draft::Token(token) => Ok(Part::Leaf(token.copy()?)),
-        Draft::Nothing(place) => Ok(Part::Nothing(place)),
+        group => grouped(alloc, group),
+    }
+}
+
+/// The part, for the tree, of brackets mostly.
+#[tactic(auto, using(bqn_syntax::specs::Levels::levels))]
+#[inline(never)]
+fn grouped(alloc: Global, draft: Draft<'_>) -> Result<Part, Memory>
+    ensures { IfOk result (λ part. part_of part ≡ draft_of draft.entry) }
+{
+    match draft {
+        Draft::Token(token) => Ok(Part::Leaf(token.copy()?)),
+        Draft::Nothing(skip) => Ok(Part::Nothing(skip.place)),
         Draft::List(all) => Ok(Part::List(all.into_inner())),
         Draft::Merge(all) => Ok(Part::Merge(all.into_inner())),
         Draft::Paren(inner) => Ok(Part::Paren(inner)),
@@ -129,6 +141,17 @@ pub fn derived(alloc: Global, function: Function<'_>) -> Result<Derived, Memory>
 /// The role of a part.
 #[inline(always)]
 pub fn tag_of_draft(draft: &Draft<'_>) -> Tag
+    ensures { result ≡ tag (draft_of draft.now) }
+{
+    match draft {
+        Draft::Token(token) => token.kind.tag(),
+        group => tag_of_group(group),
+    }
+}
+
+/// The role of a part, of brackets mostly.
+#[inline(never)]
+fn tag_of_group(draft: &Draft<'_>) -> Tag
     ensures { result ≡ tag (draft_of draft.now) }
 {
     match draft {

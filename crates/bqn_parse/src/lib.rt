@@ -7,6 +7,7 @@ mod draft;
 mod ends;
 mod error;
 mod expression;
+mod following;
 mod item;
 mod judge;
 mod level;

@@ -1,6 +1,7 @@
-ghost use Rattle.std.specs.Prelude.{◌≡◌, map, reverse, Ok};
+ghost use Rattle.std.specs.Prelude.{◌≡◌, Ok};
 ghost use Rattle.bqn_syntax.specs.Looks.{first_of, look, rest_of};
-ghost use Rattle.bqn_parse.specs.Looking.{ahead_shown, aheads_of, looks_shown};
+ghost use Rattle.bqn_syntax.specs.Sorts.{sort_of};
+ghost use Rattle.bqn_parse.specs.Looking.{ahead_by, ahead_shown, stacked, left_behind, looks_shown, openings, with_opening};
 ghost use Rattle.bqn_parse.specs.Walking.{Made, Moves};
 
 use crate::error::ParseError;
@@ -33,8 +34,8 @@ struct Looks {
 /// Takes away what stands behind the innermost bracket.
 #[tactic(auto, using(crate::proofs::Looking::look_laws))]
 fn leave(outer: &mut Vec<Ahead>) -> Ahead
-    ensures first { ahead_shown result ≡ first_of (map ahead_shown (reverse outer.old.items)) }
-    ensures rest { map ahead_shown (reverse outer.new.items) ≡ rest_of (map ahead_shown (reverse outer.old.items)) }
+    ensures first { ahead_shown result ≡ first_of (stacked outer.old.items) }
+    ensures rest { stacked outer.new.items ≡ rest_of (stacked outer.old.items) }
 {
     match outer.pop() {
         None => NOTHING,
@@ -42,26 +43,18 @@ fn leave(outer: &mut Vec<Ahead>) -> Ahead
     }
 }
 
-/// What stands behind the innermost bracket.
+/// One more token, in front of the others: what stands behind the bracket that it opens is found.
 #[tactic(auto, using(crate::proofs::Looking::look_laws))]
-fn innermost(looks: &Looks) -> Ahead
-    ensures { ahead_shown result ≡ first_of (looks_shown looks.now).outer }
-{
-    match looks.outer.last() {
-        None => NOTHING,
-        Some(ahead) => *ahead,
-    }
-}
-
-/// One more token, in front of the others.
-#[tactic(auto, using(crate::proofs::Looking::look_laws))]
-fn look(looks: &mut Looks, sort: Sort) -> Result<(), ParseError>
-    ensures { Moves (Ok (look sort (looks_shown looks.old))) (looks_shown looks.new) result }
+#[inline(always)]
+fn look(looks: &mut Looks, found: &mut Vec<Ahead>, sort: Sort) -> Result<(), ParseError>
+    ensures looks { Moves (Ok (look sort (looks_shown looks.old))) (looks_shown looks.new) result }
+    ensures found { Moves (Ok (with_opening sort (first_of (looks_shown looks.old).outer) (stacked found.old.items))) (stacked found.new.items) result }
 {
     let here = looks.here;
     match sort {
         Sort::Opens(_) => {
             let behind = leave(&mut looks.outer);
+            found.push(behind)?;
             looks.here = Ahead {
                 arrow: false,
                 element: behind.arrow,
@@ -112,22 +105,33 @@ fn look(looks: &mut Looks, sort: Sort) -> Result<(), ParseError>
     Ok(())
 }
 
-/// For each token what stands behind the bracket that closes the one that opens there.
+/// For each opening bracket what stands behind the one that closes it, the first of them last.
 #[tactic(auto, using(crate::proofs::Looking::aheads_laws))]
 pub fn aheads(alloc: Global, tokens: &[Token]) -> Result<Vec<Ahead>, ParseError>
-    ensures { Made (Ok (aheads_of tokens.now)) (λ all. map ahead_shown all.items) result }
+    ensures { Made (Ok (openings tokens.now)) (λ all. stacked all.items) result }
 {
     let mut looks = Looks {
         here: NOTHING,
         outer: Vec::new(alloc),
     };
-    let mut behind = Vec::with_capacity(alloc, tokens.len())?;
+    let mut found = Vec::new(alloc);
     let mut next = tokens.len();
     'tokens: while next > 0 {
         next -= 1;
-        behind.push(innermost(&looks))?;
-        look(&mut looks, tokens[next].kind.sort())?;
+        look(&mut looks, &mut found, tokens[next].kind.sort())?;
     }
-    behind.reverse();
-    Ok(behind)
+    Ok(found)
+}
+
+/// What stands behind the bracket that such a token opens, if it opens one. It is taken from what stands behind those
+/// that are left.
+#[inline(always)]
+pub fn ahead_of(token: &Token, left: &mut Vec<Ahead>) -> Ahead
+    ensures ahead { ahead_shown result ≡ ahead_by (sort_of token.now.kind) (stacked left.old.items) }
+    ensures left { stacked left.new.items ≡ left_behind (sort_of token.now.kind) (stacked left.old.items) }
+{
+    match token.kind.sort() {
+        Sort::Opens(_) => leave(left),
+        _ => NOTHING,
+    }
 }

@@ -97,7 +97,7 @@ fn exported_part(draft: Draft<'_>) -> Result<Option<Pattern>, Memory>
                 Ok(None)
             }
         }
-        Draft::Nothing(place) => Ok(Some(Pattern::Skip(place))),
+        Draft::Nothing(skip) => Ok(Some(Pattern::Skip(skip.place))),
         _ => Ok(None),
     }
 }

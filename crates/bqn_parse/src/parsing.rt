@@ -1,7 +1,7 @@
-ghost use Rattle.std.specs.Prelude.{◌≡◌, ◌≤◌, ◌<◌, ◌^◌, IfOk, length, map, slice_index_or};
+ghost use Rattle.std.specs.Prelude.{◌≡◌, ◌≤◌, ◌^◌, IfOk, length};
 ghost use Rattle.bqn_syntax.specs.Grammar.{WellSpelled};
 ghost use Rattle.bqn_syntax.specs.Parsing.{ended, nowhere, parsed, program_of, walk};
-ghost use Rattle.bqn_parse.specs.Looking.{ahead_shown, aheads_of};
+ghost use Rattle.bqn_parse.specs.Looking.{stacked, openings};
 ghost use Rattle.bqn_syntax.specs.Plain.{tree_of};
 ghost use Rattle.bqn_parse.specs.Views.{Finds, Gives};
 ghost use Rattle.bqn_parse.specs.Walking.{start, walk_shown};
@@ -9,7 +9,7 @@ ghost use Rattle.bqn_parse.specs.Walking.{start, walk_shown};
 use crate::error::ParseError;
 use crate::judge::end;
 use crate::level::{Level, Walk};
-use crate::looks::{Ahead, aheads};
+use crate::looks::{Ahead, ahead_of, aheads};
 use crate::step::step;
 use bqn_base::{Place, Refusal, Row};
 use bqn_grammar::{only_well_trees_are_found, well_trees_are_found};
@@ -36,21 +36,14 @@ fn finish<'t>(alloc: Global, tokens: &[Token], walk: &mut Walk<'t>) -> Result<Tr
     })
 }
 
-/// What stands behind the bracket of the token with this index.
-fn ahead_at(behind: &[Ahead], index: usize) -> Ahead
-    requires { index < length behind.now }
-    ensures { result ≡ slice_index_or behind.now index result }
-{
-    behind[index]
-}
-
-/// The walk over the tokens, behind whose brackets this stands.
+/// The walk over the tokens, behind whose opening brackets this stands, the first of them last.
 #[tactic(auto, using(crate::proofs::Parsed::walk_laws))]
-fn walk(alloc: Global, tokens: &[Token], behind: &[Ahead]) -> Result<Tree, ParseError>
+fn walk(alloc: Global, tokens: &[Token], behind: Vec<Ahead>) -> Result<Tree, ParseError>
     requires few { length tokens.now ≤ 2 ^ 28 }
-    requires known { map ahead_shown behind.now ≡ aheads_of tokens.now }
+    requires known { stacked behind.items ≡ openings tokens.now }
     ensures { Gives (walk start tokens.now) result }
 {
+    let mut left = behind;
     let mut spare = Vec::new(alloc);
     let mut walk = Walk {
         level: Level::new(alloc, Inside::Program, NOWHERE, &mut spare),
@@ -58,7 +51,7 @@ fn walk(alloc: Global, tokens: &[Token], behind: &[Ahead]) -> Result<Tree, Parse
         spare,
     };
     'tokens: for (index, token) in tokens.iter().enumerate() {
-        let ahead = ahead_at(behind, index);
+        let ahead = ahead_of(token, &mut left);
         match step(alloc, tokens, index, token, ahead, &mut walk) {
             Ok(()) => {}
             Err(error) => return Err(error),
@@ -77,7 +70,7 @@ fn tree(alloc: Global, tokens: &[Token]) -> Result<Tree, ParseError>
         Ok(groups) => {
             drop(groups);
             let behind = aheads(alloc, tokens)?;
-            walk(alloc, tokens, &behind)
+            walk(alloc, tokens, behind)
         }
         Err(NestError::Refused(refusal)) => Err(ParseError::Refused(refusal)),
         Err(NestError::Memory) => Err(ParseError::Memory),

@@ -2,6 +2,7 @@ ghost use Rattle.std.specs.Prelude.{◌≡◌, ◌∷◌, IfOk};
 ghost use Rattle.bqn_parse.specs.Leftward.{ahead, rest_of};
 ghost use Rattle.bqn_parse.specs.Views.{backward, unit_shown};
 
+use crate::ends::push;
 use crate::unit::Unit;
 use bqn_base::Memory;
 
@@ -20,8 +21,5 @@ pub fn take<'t>(left: &mut Vec<Unit<'t>>) -> Option<Unit<'t>>
 pub fn put_back<'t>(left: &mut Vec<Unit<'t>>, unit: Unit<'t>) -> Result<(), Memory>
     ensures { IfOk result (λ done. backward left.new.items ≡ unit_shown unit.entry ∷ backward left.old.items) }
 {
-    match left.push(unit) {
-        Ok(()) => Ok(()),
-        Err(_) => Err(Memory),
-    }
+    push(left, unit)
 }

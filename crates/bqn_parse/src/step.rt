@@ -274,7 +274,7 @@ pub fn step<'t>(
         Sort::Selects => take(index, Item::Selecting, walk),
         Sort::Skips => take(
             index,
-            Item::Standing(Element::Part(Draft::Nothing(place))),
+            Item::Standing(Element::Part(Draft::Nothing(token))),
             walk,
         ),
         Sort::Stands => {

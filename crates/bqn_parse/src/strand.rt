@@ -37,7 +37,7 @@ pub fn element_pattern(literals: bool, element: Element<'_>) -> Result<Option<Pa
 {
     match element {
         Element::Part(Draft::Token(token)) => leaf_pattern(literals, token),
-        Element::Part(Draft::Nothing(place)) => Ok(Some(Pattern::Skip(place))),
+        Element::Part(Draft::Nothing(skip)) => Ok(Some(Pattern::Skip(skip.place))),
         Element::Part(_) => Ok(None),
         Element::List(pattern) => Ok(Some(pattern.into_inner())),
     }

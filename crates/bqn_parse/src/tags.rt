@@ -1,8 +1,20 @@
 ghost use Rattle.std.specs.Prelude.{◌≡◌};
 ghost use Rattle.bqn_syntax.specs.Plain.{part_of, expr_of};
 ghost use Rattle.bqn_syntax.specs.Sorts.{class_tag, last_tag, tag, expr_tag};
+ghost use Rattle.bqn_parse.specs.Following.{is_no_modifier};
 
 use bqn_syntax::{Class, Expr, Part, Tag, Token};
+
+/// Whether what has this role is no modifier.
+#[inline(always)]
+pub fn is_no_modifier(tag: Tag) -> bool
+    ensures { result ≡ is_no_modifier tag }
+{
+    match tag {
+        Tag::Subject | Tag::Function | Tag::Nothing => true,
+        Tag::Mod1 | Tag::Mod2 => false,
+    }
+}
 
 /// The role of a block of this class.
 pub fn tag_of_class(class: Class) -> Tag

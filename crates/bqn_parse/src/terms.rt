@@ -5,18 +5,18 @@ ghost use Rattle.bqn_syntax.specs.Items as items;
 ghost use Rattle.bqn_syntax.specs.Units.{bound};
 ghost use Rattle.bqn_parse.specs.Drafts.{draft_of, field_of};
 ghost use Rattle.bqn_parse.specs.Fused.{draw, drawn, ended, join, piece, put, select, stand, units_if, units_with, with_term};
-ghost use Rattle.bqn_parse.specs.Following.{behind_by, behind_of};
 ghost use Rattle.bqn_parse.specs.declared.terms.Reading.TheVariants as readings;
-ghost use Rattle.bqn_parse.specs.Grouping.{grouping_shown};
+ghost use Rattle.bqn_parse.specs.Grouping.{grouping_shown, settled};
 ghost use Rattle.bqn_parse.specs.Strands.{elements_of, reader_of, reading_of};
 ghost use Rattle.bqn_parse.specs.Views.{backward, element_of, item_of, items_of, when};
 
 use crate::draft::{Draft, Field, boxed, part, tag_of_draft};
 use crate::ends::push;
+use crate::following::{Behind, is_before_no_modifier, what_follows};
 use crate::item::{Element, Item};
 use crate::strand::{element_parts, element_patterns};
 use crate::unit::Unit;
-use crate::units::{Binding, Grouping, beside, bind_part, closed};
+use crate::units::{Binding, Grouping, beside, bind_part, bind_settled, closed};
 use bqn_base::Memory;
 use bqn_syntax::{Arrow, Kind, Pattern, Tag, Token};
 use std::alloc::Global;
@@ -313,38 +313,6 @@ fn put_any<'t>(alloc: Global, reader: &mut Reader<'t>, item: Item<'t>) -> Result
     }
 }
 
-/// What stands behind an item: a joiner or a dot, which asks for more; an arrow; anything else.
-#[derive(Clone, Copy)]
-enum Behind {
-    Asks,
-    Draws,
-    Else,
-}
-
-/// What this item is for the one in front of it.
-#[inline(always)]
-fn as_follower(item: &Item<'_>) -> Behind
-    ensures { result ≡ behind_by (item_of item.now) }
-{
-    match item {
-        Item::Joining | Item::Selecting => Behind::Asks,
-        Item::Drawn(_) => Behind::Draws,
-        Item::Standing(_) | Item::Wrong => Behind::Else,
-    }
-}
-
-/// What the items that are left, the first of them last, are for the one in front of them.
-#[tactic(auto, using(crate::proofs::Fused::behind_laws))]
-#[inline(always)]
-fn what_follows(left: &[Item<'_>]) -> Behind
-    ensures { result ≡ behind_of (items_of (reverse left.now)) }
-{
-    match left.last() {
-        Some(item) => as_follower(item),
-        None => Behind::Else,
-    }
-}
-
 /// Whether nothing is being read.
 #[inline(always)]
 fn is_between(reading: &Reading<'_>) -> bool
@@ -353,8 +321,40 @@ fn is_between(reading: &Reading<'_>) -> bool
     matches!(reading, Reading::Between)
 }
 
+/// An element by itself, where neither an arrow nor a modifier follows.
+#[inline(always)]
+fn plain_settled<'t>(
+    alloc: Global,
+    grouping: &mut Grouping<'t>,
+    element: Element<'t>,
+) -> Result<bool, Memory>
+    ensures { IfOk result (λ fine. when fine (grouping_shown grouping.new) ≡ option_map settled (with_term (grouping_shown grouping.old) (items.plain_term [] (element_of element.entry)))) }
+{
+    match element {
+        Element::Part(part) => bind_settled(alloc, grouping, part),
+        Element::List(_) => Ok(false),
+    }
+}
+
+/// An element by itself, directly before an arrow.
+#[tactic(auto, using(bqn_syntax::specs::Levels::levels, crate::proofs::Settled::beside_laws))]
+#[inline(always)]
+fn aimed_settled<'t>(
+    alloc: Global,
+    grouping: &mut Grouping<'t>,
+    element: Element<'t>,
+) -> Result<bool, Memory>
+    ensures { IfOk result (λ fine. when fine (grouping_shown grouping.new) ≡ option_map settled (with_term (grouping_shown grouping.old) (items.aimed_term [] (element_of element.entry)))) }
+{
+    match element {
+        Element::Part(Draft::List(_)) => Ok(false),
+        Element::Part(part) => bind_settled(alloc, grouping, part),
+        Element::List(pattern) => beside(grouping, Unit::Aim(pattern)),
+    }
+}
+
 /// An element that nothing asks for, before these items: it is bound at once where nothing is joined to it.
-#[tactic(auto, using(crate::proofs::Fused::eager_laws))]
+#[tactic(auto, using(crate::proofs::Fused::eager_laws, crate::proofs::Settled::settled_laws))]
 #[inline(always)]
 fn stand_first<'t>(
     alloc: Global,
@@ -370,8 +370,14 @@ fn stand_first<'t>(
             begin(reader, element);
             Ok(true)
         }
-        Behind::Draws => aimed_alone(alloc, &mut reader.grouping, element),
-        Behind::Else => plain_alone(alloc, &mut reader.grouping, element),
+        Behind::Draws => aimed_settled(alloc, &mut reader.grouping, element),
+        Behind::Else => {
+            if is_before_no_modifier(left) {
+                plain_settled(alloc, &mut reader.grouping, element)
+            } else {
+                plain_alone(alloc, &mut reader.grouping, element)
+            }
+        }
     }
 }
 

@@ -1,4 +1,5 @@
-ghost use Rattle.std.specs.Prelude.{◌≡◌, IfOk, [], ◌∷◌, ◌++◌, map};
+ghost use Rattle.std.specs.Prelude.{◌≡◌, IfOk, IsTrue, [], ◌∷◌, ◌++◌, map};
+ghost use Rattle.std.specs.Option.{option_map};
 ghost use Rattle.bqn_syntax.specs.Plain.{use_of};
 ghost use Rattle.bqn_syntax.specs.Sorts.{tag};
 ghost use Rattle.bqn_syntax.specs.Plain as plain;
@@ -6,7 +7,7 @@ ghost use Rattle.bqn_syntax.specs.Units as units;
 ghost use Rattle.bqn_syntax.specs.Units.{alone, unit_of, closed, operand, modified, modified_twice, beside, bind_part, bound};
 ghost use Rattle.bqn_parse.specs.declared.units.Binding.TheVariants as binding;
 ghost use Rattle.bqn_parse.specs.Drafts.{draft_of};
-ghost use Rattle.bqn_parse.specs.Grouping.{binding_shown, grouping_shown, operand_shown, uses_shown};
+ghost use Rattle.bqn_parse.specs.Grouping.{binding_shown, grouping_shown, operand_shown, settled, uses_shown};
 ghost use Rattle.bqn_parse.specs.Views.{backward, unit_shown, when};
 
 use crate::draft::{Draft, Function, Modified, boxed, part, tag_of_draft};
@@ -23,8 +24,14 @@ use std::mem;
 pub enum Binding<'t> {
     Free,
     Bound(Function<'t>),
-    /// The last modifier wants its second operand.
-    Wanting(Function<'t>, Draft<'t>),
+    Wanting(Boxed<Wanting<'t>>),
+}
+
+/// An operand with its modifiers so far, of which the last one wants its second operand.
+#[derive(Drop)]
+pub struct Wanting<'t> {
+    pub function: Function<'t>,
+    pub modifier: Draft<'t>,
 }
 
 /// The units so far, in order, and the operand that is being read.
@@ -84,7 +91,7 @@ pub fn closed<'t>(grouping: &mut Grouping<'t>) -> Result<bool, Memory>
             push(&mut grouping.units, unit_of(function))?;
             Ok(true)
         }
-        Binding::Wanting(..) => Ok(false),
+        Binding::Wanting(_) => Ok(false),
     }
 }
 
@@ -112,12 +119,12 @@ fn with_use<'t>(alloc: Global, function: Function<'t>, one: ModUse) -> Result<Fu
 fn second<'t>(
     alloc: Global,
     grouping: &mut Grouping<'t>,
-    function: Function<'t>,
-    modifier: Draft<'t>,
+    wanting: Boxed<Wanting<'t>>,
     draft: Draft<'t>,
 ) -> Result<(), Memory>
-    ensures { IfOk result (λ done. grouping_shown grouping.new ≡ units.row (backward grouping.old.units.items) (units.Bound (operand_shown function.entry) (uses_shown function.entry ++ plain.Two (draft_of modifier.entry) (draft_of draft.entry) ∷ []))) }
+    ensures { IfOk result (λ done. grouping_shown grouping.new ≡ units.row (backward grouping.old.units.items) (units.Bound (operand_shown wanting.entry.function) (uses_shown wanting.entry.function ++ plain.Two (draft_of wanting.entry.modifier) (draft_of draft.entry) ∷ []))) }
 {
+    let Wanting { function, modifier } = wanting.into_inner();
     let one = ModUse::Two(part(alloc, modifier)?, part(alloc, draft)?);
     grouping.binding = Binding::Bound(with_use(alloc, function, one)?);
     Ok(())
@@ -132,9 +139,7 @@ fn operand<'t>(alloc: Global, grouping: &mut Grouping<'t>, draft: Draft<'t>) -> 
     match mem::replace(&mut grouping.binding, Binding::Free) {
         Binding::Free => {}
         Binding::Bound(function) => push(&mut grouping.units, unit_of(function))?,
-        Binding::Wanting(function, modifier) => {
-            return second(alloc, grouping, function, modifier, draft);
-        }
+        Binding::Wanting(wanting) => return second(alloc, grouping, wanting, draft),
     }
     grouping.binding = Binding::Bound(Function::Plain(draft));
     Ok(())
@@ -160,14 +165,18 @@ fn modified<'t>(
             grouping.binding = Binding::Bound(with_use(alloc, function, one)?);
             Ok(true)
         }
-        Binding::Wanting(..) => Ok(false),
+        Binding::Wanting(_) => Ok(false),
     }
 }
 
 /// One more 2-modifier.
 #[tactic(auto, using(crate::proofs::Backward::unit_laws, bqn_syntax::specs::Levels::levels))]
 #[inline(never)]
-fn modified_twice<'t>(grouping: &mut Grouping<'t>, modifier: Draft<'t>) -> Result<bool, Memory>
+fn modified_twice<'t>(
+    alloc: Global,
+    grouping: &mut Grouping<'t>,
+    modifier: Draft<'t>,
+) -> Result<bool, Memory>
     ensures { IfOk result (λ fine. when fine (grouping_shown grouping.new) ≡ modified_twice (backward grouping.old.units.items) (binding_shown grouping.old.binding) (draft_of modifier.entry)) }
 {
     match mem::replace(&mut grouping.binding, Binding::Free) {
@@ -176,10 +185,11 @@ fn modified_twice<'t>(grouping: &mut Grouping<'t>, modifier: Draft<'t>) -> Resul
             Ok(true)
         }
         Binding::Bound(function) => {
-            grouping.binding = Binding::Wanting(function, modifier);
+            let wanting = boxed(alloc, Wanting { function, modifier })?;
+            grouping.binding = Binding::Wanting(wanting);
             Ok(true)
         }
-        Binding::Wanting(..) => Ok(false),
+        Binding::Wanting(_) => Ok(false),
     }
 }
 
@@ -210,7 +220,50 @@ pub fn bind_part<'t>(
             Ok(true)
         }
         Tag::Mod1 => modified(alloc, grouping, draft),
-        Tag::Mod2 => modified_twice(grouping, draft),
+        Tag::Mod2 => modified_twice(alloc, grouping, draft),
         Tag::Nothing => beside(grouping, Unit::Absent(draft)),
     }
+}
+
+/// Whether no operand is being read.
+#[inline(always)]
+fn is_free(bound: &Binding<'_>) -> bool
+    ensures { IsTrue result → bound.now ≡ binding.Free }
+{
+    matches!(bound, Binding::Free)
+}
+
+/// The operand that was being read ends, unless its modifier wants another.
+#[tactic(auto, using(crate::proofs::Backward::unit_laws, bqn_syntax::specs::Levels::levels))]
+#[inline(never)]
+fn settle<'t>(grouping: &mut Grouping<'t>) -> Result<(), Memory>
+    ensures { IfOk result (λ done. grouping_shown grouping.new ≡ settled (grouping_shown grouping.old)) }
+{
+    match mem::replace(&mut grouping.binding, Binding::Free) {
+        Binding::Free => {}
+        Binding::Bound(function) => push(&mut grouping.units, unit_of(function))?,
+        Binding::Wanting(wanting) => grouping.binding = Binding::Wanting(wanting),
+    }
+    Ok(())
+}
+
+/// One more part, which no modifier follows: an operand ends with it.
+#[tactic(auto, using(crate::proofs::Backward::unit_laws, crate::proofs::Settled::part_laws))]
+#[inline(always)]
+pub fn bind_settled<'t>(
+    alloc: Global,
+    grouping: &mut Grouping<'t>,
+    draft: Draft<'t>,
+) -> Result<bool, Memory>
+    ensures { IfOk result (λ fine. when fine (grouping_shown grouping.new) ≡ option_map settled (bind_part (tag (draft_of draft.entry)) (backward grouping.old.units.items) (binding_shown grouping.old.binding) (draft_of draft.entry))) }
+{
+    if is_free(&grouping.binding) {
+        push(&mut grouping.units, alone(draft))?;
+        return Ok(true);
+    }
+    if !bind_part(alloc, grouping, draft)? {
+        return Ok(false);
+    }
+    settle(grouping)?;
+    Ok(true)
 }

@@ -17,8 +17,8 @@ tokens-preserved c =
     let so = walk_shown tokens c.tokens.walk in
     let next = walk_shown tokens c.step.new.walk in
     let token = c.index-tokens-index in
-    let a = c.ahead_at-ahead in
-    going-step index so next tokens c.args.behind.now token.result a.result c.tokens.invariant c.requires.known (omega arith) token.is a.ensures
+    let a = c.ahead_of-ahead in
+    going-step index c.tokens.left.items a.new.left.items so next tokens token.result a.result c.tokens.invariant (omega arith) token.is a.ensures.ahead a.ensures.left
     (subst (λ (r : Result (Unit {0}) ParseError). Moves (parsing.step (sort_of token.result.kind) (ahead_shown a.result) token.result (drop index tokens) so) next r) c.in-Ok.is c.step.ensures)
 
 pub returns-in-Err : goal.returns-in-Err
@@ -28,11 +28,11 @@ returns-in-Err c =
     let so = walk_shown tokens c.tokens.walk in
     let next = walk_shown tokens c.step.new.walk in
     let token = c.index-tokens-index in
-    let a = c.ahead_at-ahead in
-    going-failed index so next tokens c.args.behind.now token.result a.result c.in-Err.error c.tokens.invariant c.requires.known (omega arith) token.is a.ensures
+    let a = c.ahead_of-ahead in
+    going-failed index c.tokens.left.items so next tokens token.result a.result c.in-Err.error c.tokens.invariant (omega arith) token.is a.ensures.ahead
     (subst (λ (r : Result (Unit {0}) ParseError). Moves (parsing.step (sort_of token.result.kind) (ahead_shown a.result) token.result (drop index tokens) so) next r) c.in-Err.is c.step.ensures)
 
 pub returns : goal.returns
 returns c =
     let tokens = c.args.tokens.now in
-    subst (λ (a : Result Stmts Refusal). Gives a c.finish.result) (sym (going-end c.tokens.index (walk_shown tokens c.tokens.walk) tokens c.tokens.invariant (omega arith))) c.finish.ensures
+    subst (λ (a : Result Stmts Refusal). Gives a c.finish.result) (sym (going-end c.tokens.index c.tokens.left.items (walk_shown tokens c.tokens.walk) tokens c.tokens.invariant (omega arith))) c.finish.ensures

@@ -3,4 +3,4 @@ use Rattle.bqn_parse.proofs.Parsed.{Going}
 use Rattle.bqn_parse.proofs.parsing.walk.Given as goal
 
 abbrev pub invariant-tokens : goal.invariant-tokens
-invariant-tokens l = Going l.index (walk_shown l.tokens l.walk) l.tokens
+invariant-tokens l = Going l.index l.left.items (walk_shown l.tokens l.walk) l.tokens
