@@ -8,7 +8,6 @@ ghost use Rattle.bqn_parse.specs.Views.{element_of};
 ghost use Rattle.bqn_parse.specs.Walking.{Made};
 
 use crate::draft::{Draft, boxed};
-use crate::ends::shrunk;
 use crate::error::ParseError;
 use crate::item::Element;
 use crate::marks::{has_predicate, in_stmts, since_predicate};
@@ -94,7 +93,7 @@ pub fn block<'t>(alloc: Global, place: Place, all: Vec<BodyTree>) -> Result<Elem
             let block = BlockTree {
                 place,
                 class,
-                bodies: Row::new(shrunk(all)),
+                bodies: Row::new(all),
             };
             Ok(Element::Part(Draft::Block(boxed(alloc, block)?)))
         }

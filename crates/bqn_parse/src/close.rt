@@ -9,7 +9,7 @@ ghost use Rattle.bqn_parse.specs.Walking.{level_shown, walk_shown, Made, Moves};
 
 use crate::blocks::block;
 use crate::draft::{Draft, boxed};
-use crate::ends::{push, shrunk};
+use crate::ends::{push, taken};
 use crate::error::ParseError;
 use crate::item::{Element, Item};
 use crate::judge::end;
@@ -36,8 +36,12 @@ fn closes(bracket: Bracket, inside: Inside) -> bool
 
 /// Parentheses that hold these pieces.
 #[tactic(auto, using(bqn_syntax::specs::Levels::levels, crate::proofs::Closing::parens_laws))]
-fn parens<'t>(alloc: Global, place: Place, mut pieces: Vec<Expr>) -> Result<Element<'t>, ParseError>
-    ensures { Made (parsing.parens_part place (map expr_of pieces.items)) element_of result }
+fn parens<'t>(
+    alloc: Global,
+    place: Place,
+    pieces: &mut Vec<Expr>,
+) -> Result<Element<'t>, ParseError>
+    ensures { Made (parsing.parens_part place (map expr_of pieces.old.items)) element_of result }
 {
     let Some(piece) = pieces.pop() else {
         return Err(ParseError::Refused(Refusal::Grammar(place)));
@@ -50,13 +54,13 @@ fn parens<'t>(alloc: Global, place: Place, mut pieces: Vec<Expr>) -> Result<Elem
 
 /// The array whose cells are these pieces; it has one at least.
 #[tactic(auto, using(bqn_syntax::specs::Levels::levels, crate::proofs::Closing::merge_laws))]
-fn merge<'t>(alloc: Global, place: Place, pieces: Vec<Expr>) -> Result<Element<'t>, ParseError>
-    ensures { Made (parsing.merge_part place (map expr_of pieces.items)) element_of result }
+fn merge<'t>(alloc: Global, place: Place, pieces: &mut Vec<Expr>) -> Result<Element<'t>, ParseError>
+    ensures { Made (parsing.merge_part place (map expr_of pieces.old.items)) element_of result }
 {
     if pieces.is_empty() {
         return Err(ParseError::Refused(Refusal::Grammar(place)));
     }
-    let all = boxed(alloc, Row::new(shrunk(pieces)))?;
+    let all = boxed(alloc, Row::new(taken(alloc, pieces)?))?;
     Ok(Element::Part(Draft::Merge(all)))
 }
 
@@ -65,7 +69,7 @@ fn whole_block<'t>(alloc: Global, level: &mut Level<'t>) -> Result<Element<'t>, 
     ensures { (tokens : List Token) (place : Place) → Made (parsing.whole inside.Block place (level_shown tokens level.old)) element_of result }
 {
     level.end_body(alloc)?;
-    let done = mem::replace(&mut level.done, Vec::new(alloc));
+    let done = taken(alloc, &mut level.done)?;
     block(alloc, level.opened, done)
 }
 
@@ -75,22 +79,16 @@ fn whole<'t>(alloc: Global, place: Place, level: &mut Level<'t>) -> Result<Eleme
     ensures { (tokens : List Token) → Made (parsing.whole level.old.inside place (level_shown tokens level.old)) element_of result }
 {
     match level.inside {
-        Inside::Parens => {
-            let pieces = mem::replace(&mut level.expressions, Vec::new(alloc));
-            parens(alloc, place, pieces)
-        }
+        Inside::Parens => parens(alloc, place, &mut level.expressions),
         Inside::List => {
-            let pieces = mem::replace(&mut level.expressions, Vec::new(alloc));
-            let all = boxed(alloc, Row::new(shrunk(pieces)))?;
+            let pieces = taken(alloc, &mut level.expressions)?;
+            let all = boxed(alloc, Row::new(pieces))?;
             Ok(Element::Part(Draft::List(all)))
         }
-        Inside::Merge => {
-            let pieces = mem::replace(&mut level.expressions, Vec::new(alloc));
-            merge(alloc, place, pieces)
-        }
+        Inside::Merge => merge(alloc, place, &mut level.expressions),
         Inside::Pattern | Inside::HeaderPattern => {
-            let pieces = mem::replace(&mut level.targets, Vec::new(alloc));
-            let all = boxed(alloc, Pattern::List(Row::new(shrunk(pieces))))?;
+            let pieces = taken(alloc, &mut level.targets)?;
+            let all = boxed(alloc, Pattern::List(Row::new(pieces)))?;
             Ok(Element::List(all))
         }
         Inside::Block => whole_block(alloc, level),
@@ -119,8 +117,24 @@ fn hand<'t>(place: Place, walk: &mut Walk<'t>, element: Element<'t>) -> Result<(
     let Some(around) = walk.outer.pop() else {
         return Err(ParseError::Refused(Refusal::Bracket(place)));
     };
-    let Level { items, units, .. } = mem::replace(&mut walk.level, around);
-    push(&mut walk.spare, Room { items, units })?;
+    let Level {
+        items,
+        units,
+        expressions,
+        targets,
+        statements,
+        done,
+        ..
+    } = mem::replace(&mut walk.level, around);
+    let room = Room {
+        items,
+        units,
+        expressions,
+        targets,
+        statements,
+        done,
+    };
+    push(&mut walk.spare, room)?;
     walk.level.and_item(Item::Standing(element))?;
     Ok(())
 }

@@ -62,6 +62,18 @@ pub fn with_room<T: Drop>(alloc: Global, room: usize) -> Result<Vec<T>, Memory>
     }
 }
 
+/// What a list holds, with no room to spare; the room of the list stays with it.
+pub fn taken<T: Drop>(alloc: Global, list: &mut Vec<T>) -> Result<Vec<T>, Memory>
+    ensures taken { IfOk result (λ all. all.items ≡ list.old.items) }
+    ensures left { OnOk result (list.new.items ≡ []) }
+{
+    let mut all = with_room(alloc, list.len())?;
+    match all.append(list) {
+        Ok(()) => Ok(all),
+        Err(_) => Err(Memory),
+    }
+}
+
 /// The list, with no room to spare.
 pub fn shrunk<T>(list: Vec<T>) -> Vec<T>
     ensures { result.items ≡ list.items }

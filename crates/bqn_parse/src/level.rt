@@ -6,7 +6,7 @@ ghost use Rattle.bqn_syntax.specs.declared.token.Token.{Token};
 ghost use Rattle.bqn_parse.specs.Views.{item_of};
 ghost use Rattle.bqn_parse.specs.Walking.{level_shown, Moves};
 
-use crate::ends::{append, push, shrunk};
+use crate::ends::{push, taken};
 use crate::error::ParseError;
 use crate::item::Item;
 use crate::unit::Unit;
@@ -14,7 +14,6 @@ use bqn_base::{Memory, Place, Row};
 use bqn_syntax::{BodyTree, Expr, Header, Inside, Pattern, Stmt};
 use sqlite_items::Boxed;
 use std::alloc::Global;
-use std::mem;
 
 /// What is open: what its pieces stand in, the place where it opened, the index of the first token
 /// of the piece that is being read and the items of that piece, room for its units, and what has been read: expressions,
@@ -33,11 +32,15 @@ pub struct Level<'t> {
     pub done: Vec<BodyTree>,
 }
 
-/// Room for the items and the units of a piece.
+/// Room for the items and the units of a piece, and for what has been read.
 #[derive(Drop)]
 pub struct Room<'t> {
     pub items: Vec<Item<'t>>,
     pub units: Vec<Unit<'t>>,
+    pub expressions: Vec<Expr>,
+    pub targets: Vec<Pattern>,
+    pub statements: Vec<Stmt>,
+    pub done: Vec<BodyTree>,
 }
 
 /// The innermost level, those around it, the innermost last, and the room of levels that were closed.
@@ -55,6 +58,10 @@ fn room_in<'t>(alloc: Global, spare: &mut Vec<Room<'t>>) -> Room<'t> {
         None => Room {
             items: Vec::new(alloc),
             units: Vec::new(alloc),
+            expressions: Vec::new(alloc),
+            targets: Vec::new(alloc),
+            statements: Vec::new(alloc),
+            done: Vec::new(alloc),
         },
     }
 }
@@ -64,19 +71,31 @@ impl<'t> Level<'t> {
     pub fn new(alloc: Global, inside: Inside, opened: Place, spare: &mut Vec<Room<'t>>) -> Level<'t>
         ensures { (tokens : List Token) → level_shown tokens result ≡ parsing.fresh inside opened }
     {
-        let Room { mut items, units } = room_in(alloc, spare);
-        items.clear();
+        let mut room = room_in(alloc, spare);
+        room.items.clear();
+        room.expressions.clear();
+        room.targets.clear();
+        room.statements.clear();
+        room.done.clear();
+        let Room {
+            items,
+            units,
+            expressions,
+            targets,
+            statements,
+            done,
+        } = room;
         Level {
             inside,
             opened,
             first: None,
             items,
             units,
-            expressions: Vec::new(alloc),
-            targets: Vec::new(alloc),
+            expressions,
+            targets,
             header: None,
-            statements: Vec::new(alloc),
-            done: Vec::new(alloc),
+            statements,
+            done,
         }
     }
 
@@ -100,10 +119,11 @@ impl<'t> Level<'t> {
 
     /// The piece that was read is this expression, and the level waits for the next one.
     #[tactic(auto, using(crate::proofs::Walking::append_laws))]
+    #[inline(always)]
     pub fn and_expression(&mut self, e: Expr) -> Result<(), ParseError>
         ensures { (tokens : List Token) → Moves (Ok (parsing.and_expression (expr_of e) (level_shown tokens self.old))) (level_shown tokens self.new) result }
     {
-        append(&mut self.expressions, e)?;
+        push(&mut self.expressions, e)?;
         self.first = None;
         self.items.clear();
         Ok(())
@@ -114,7 +134,7 @@ impl<'t> Level<'t> {
     pub fn and_target(&mut self, q: Pattern) -> Result<(), ParseError>
         ensures { (tokens : List Token) → Moves (Ok (parsing.and_target (pattern_of q) (level_shown tokens self.old))) (level_shown tokens self.new) result }
     {
-        append(&mut self.targets, q)?;
+        push(&mut self.targets, q)?;
         self.first = None;
         self.items.clear();
         Ok(())
@@ -122,10 +142,11 @@ impl<'t> Level<'t> {
 
     /// The piece that was read is this statement.
     #[tactic(auto, using(crate::proofs::Walking::append_laws))]
+    #[inline(always)]
     pub fn and_statement(&mut self, s: Stmt) -> Result<(), ParseError>
         ensures { (tokens : List Token) → Moves (Ok (parsing.and_statement (stmt_of s) (level_shown tokens self.old))) (level_shown tokens self.new) result }
     {
-        append(&mut self.statements, s)?;
+        push(&mut self.statements, s)?;
         self.first = None;
         self.items.clear();
         Ok(())
@@ -156,13 +177,13 @@ impl<'t> Level<'t> {
             Some(header) => Some(header.into_inner()),
             None => None,
         };
-        let statements = mem::replace(&mut self.statements, Vec::new(alloc));
+        let statements = taken(alloc, &mut self.statements)?;
         self.first = None;
         self.items.clear();
         let body = BodyTree {
             header,
-            statements: Row::new(shrunk(statements)),
+            statements: Row::new(statements),
         };
-        append(&mut self.done, body)
+        push(&mut self.done, body)
     }
 }

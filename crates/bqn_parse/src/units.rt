@@ -79,9 +79,22 @@ fn unit_of<'t>(function: Function<'t>) -> Unit<'t>
     }
 }
 
+/// The operand that was being read ends, if there was one; it has no end where its modifier wants another.
+#[inline(always)]
+pub fn closed<'t>(grouping: &mut Grouping<'t>) -> Result<bool, Memory>
+    ensures units { IfOk result (λ fine. when fine (backward grouping.new.units.items) ≡ bound (grouping_shown grouping.old)) }
+    ensures free { grouping.new.binding ≡ binding.Free }
+{
+    if is_free(&grouping.binding) {
+        return Ok(true);
+    }
+    closed_bound(grouping)
+}
+
 /// The operand that was being read ends; it has no end where its modifier wants another.
 #[tactic(auto, using(crate::proofs::Backward::unit_laws, bqn_syntax::specs::Levels::levels))]
-pub fn closed<'t>(grouping: &mut Grouping<'t>) -> Result<bool, Memory>
+#[inline(never)]
+fn closed_bound<'t>(grouping: &mut Grouping<'t>) -> Result<bool, Memory>
     ensures units { IfOk result (λ fine. when fine (backward grouping.new.units.items) ≡ bound (grouping_shown grouping.old)) }
     ensures free { grouping.new.binding ≡ binding.Free }
 {

@@ -1,4 +1,4 @@
-use Rattle.std.proofs.Common.{map, subst, Vec}
+use Rattle.std.proofs.Common.{List, map, subst}
 use Rattle.bqn_syntax.specs.Classes as classes
 use Rattle.bqn_syntax.specs.Parsing as parsing
 use Rattle.bqn_syntax.specs.Plain.{body_of, bodies}
@@ -11,5 +11,5 @@ pub returns : goal.returns
 returns c = λ tokens place.
     subst (λ (l : parsing.Level). Made (parsing.block_part l.opened (bodies l.done) (classes.class_of (classes.marks_in (bodies l.done)))) element_of c.block.result)
     (c.in_ok-end_body.ensures tokens)
-    (subst (λ (v : Vec BodyTree _). Made (parsing.block_part c.end_body.new.self.opened (bodies (map body_of v.items)) (classes.class_of (classes.marks_in (bodies (map body_of v.items))))) element_of c.block.result)
-    c.replace-done.ensures.value c.block.ensures)
+    (subst (λ (bs : List BodyTree). Made (parsing.block_part c.end_body.new.self.opened (bodies (map body_of bs)) (classes.class_of (classes.marks_in (bodies (map body_of bs))))) element_of c.block.result)
+    c.in_ok-done.ensures.taken c.block.ensures)
