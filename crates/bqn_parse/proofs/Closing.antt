@@ -1,6 +1,6 @@
 -- A level that closes.
-use Rattle.std.proofs.Common.{◌≡◌, ◌<◌, List, [], ◌∷◌, ◌++◌, Ok, Err, length, map, reverse, refl, ap, ◌∙◌, arith}
-use Rattle.std.proofs.lemmas.List.{reverse-append}
+use Rattle.std.proofs.Common.{◌≡◌, ◌<◌, List, [], ◌∷◌, ◌++◌, Ok, Err, length, map, refl, ap, ◌∙◌, arith, Box}
+use Rattle.std.specs.Global.{Global}
 use Rattle.bqn_base.specs.declared.place.Place.{Place}
 use Rattle.bqn_base.specs.declared.refusal.Refusal.TheVariants as refusal
 use Rattle.bqn_syntax.specs.declared.tree.Expr.{Expr as CodeExpr}
@@ -9,7 +9,8 @@ use Rattle.bqn_syntax.specs.Items.{OfPart}
 use Rattle.bqn_syntax.specs.Parsing as parsing
 use Rattle.bqn_syntax.specs.Plain.{expr_of, exprs, Merge, Paren}
 use Rattle.bqn_parse.specs.declared.level.Level.{Level}
-use Rattle.bqn_parse.specs.Walking.{level_shown}
+use Rattle.bqn_parse.specs.Walking.{around_shown, level_shown}
+use Rattle.bqn_parse.proofs.Stepping.{pushed-shown}
 
 pub parens-one : (place : Place) (all xs : List CodeExpr) (x : CodeExpr) → all ≡ xs ++ x ∷ [] → xs ≡ [] → parsing.parens_part place (map expr_of all) ≡ Ok (OfPart (Paren (expr_of x)))
 parens-one place all xs x e none = ap (λ (es : List CodeExpr). parsing.parens_part place (map expr_of es)) (e ∙ ap (λ (ys : List CodeExpr). ys ++ x ∷ []) none)
@@ -31,7 +32,7 @@ merge-some place (x ∷ xs) some = refl
 pub ruleset merge_laws = (merge-some)
 
 -- the level around, and those around that
-pub around-shown : (tokens : List Token) (outer rest : List Level) (around : Level) → outer ≡ rest ++ around ∷ [] → map (level_shown tokens) (reverse outer) ≡ level_shown tokens around ∷ map (level_shown tokens) (reverse rest)
-around-shown tokens outer rest around e = ap (λ (ls : List Level). map (level_shown tokens) (reverse ls)) e ∙ ap (map (level_shown tokens)) (reverse-append rest (around ∷ []))
+pub around-popped : (tokens : List Token) (outer rest : List (Box Level Global)) (around : Box Level Global) → outer ≡ rest ++ around ∷ [] → around_shown tokens outer ≡ level_shown tokens around.value ∷ around_shown tokens rest
+around-popped tokens outer rest around e = ap (around_shown tokens) e ∙ pushed-shown tokens rest around
 
-pub ruleset hand_laws = (around-shown)
+pub ruleset hand_laws = (around-popped)

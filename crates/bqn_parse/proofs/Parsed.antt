@@ -1,5 +1,6 @@
 -- A walk over tokens, token by token.
-use Rattle.std.proofs.Common.{◌≡◌, ◌<◌, ◌≤◌, ◌+◌, ℕ, suc, List, [], ◌∷◌, Result, Ok, Err, length, drop, get_or, drop-cons, add-one, map, reverse, refl, subst, sym, ap, ◌∙◌, arith}
+use Rattle.std.proofs.Common.{◌≡◌, ◌<◌, ◌≤◌, ◌+◌, ℕ, suc, List, [], ◌∷◌, Result, Ok, Err, length, drop, get_or, drop-cons, add-one, refl, subst, sym, ap, ◌∙◌, arith, Box}
+use Rattle.std.specs.Global.{Global}
 use Rattle.std.proofs.Math.ListN.{drop_of_length-le}
 use Rattle.bqn_base.specs.declared.refusal.Refusal.{Refusal}
 use Rattle.bqn_base.specs.declared.refusal.Refusal.TheVariants as refusal
@@ -20,7 +21,7 @@ use Rattle.bqn_parse.specs.Looking.{ahead_by, ahead_shown, left_behind, openings
 use Rattle.bqn_parse.specs.declared.error.ParseError.{ParseError}
 use Rattle.bqn_parse.specs.declared.error.ParseError.TheVariants.{Refused, Memory}
 use Rattle.bqn_parse.specs.Views.{Finds, Gives}
-use Rattle.bqn_parse.specs.Walking.{level_shown, start, Moves}
+use Rattle.bqn_parse.specs.Walking.{around_shown, start, Moves}
 use Rattle.bqn_parse.proofs.Stepping.{length-outer}
 
 -- The end of the program.
@@ -33,13 +34,13 @@ open-refused : (outer : List parsing.Level) (l : parsing.Level) → 0 < length o
 open-refused [] l some = absurd (omega arith)
 open-refused (around ∷ outer) l some = refl
 
-pub program-open : (tokens : List Token) (outer : List Level) (answer : Result parsing.Level Refusal) (l : parsing.Level) → answer ≡ Ok l → 0 < length outer → parsing.program_of (map (level_shown tokens) (reverse outer)) answer ≡ Err (refusal.Bracket l.opened)
+pub program-open : (tokens : List Token) (outer : List (Box Level Global)) (answer : Result parsing.Level Refusal) (l : parsing.Level) → answer ≡ Ok l → 0 < length outer → parsing.program_of (around_shown tokens outer) answer ≡ Err (refusal.Bracket l.opened)
 program-open tokens outer answer l e some =
-    ap (parsing.program_of (map (level_shown tokens) (reverse outer))) e
-    ∙ open-refused (map (level_shown tokens) (reverse outer)) l (let n = length-outer tokens outer in omega arith)
+    ap (parsing.program_of (around_shown tokens outer)) e
+    ∙ open-refused (around_shown tokens outer) l (let n = length-outer tokens outer in omega arith)
 
-pub program-whole : (tokens : List Token) (outer : List Level) (answer : Result parsing.Level Refusal) (l : parsing.Level) → answer ≡ Ok l → outer ≡ [] → parsing.program_of (map (level_shown tokens) (reverse outer)) answer ≡ Ok (stmts l.statements)
-program-whole tokens outer answer l e none = ap (parsing.program_of (map (level_shown tokens) (reverse outer))) e ∙ ap (λ (ls : List Level). parsing.program_of (map (level_shown tokens) (reverse ls)) (Ok l)) none
+pub program-whole : (tokens : List Token) (outer : List (Box Level Global)) (answer : Result parsing.Level Refusal) (l : parsing.Level) → answer ≡ Ok l → outer ≡ [] → parsing.program_of (around_shown tokens outer) answer ≡ Ok (stmts l.statements)
+program-whole tokens outer answer l e none = ap (parsing.program_of (around_shown tokens outer)) e ∙ ap (λ (ls : List (Box Level Global)). parsing.program_of (around_shown tokens ls) (Ok l)) none
 
 pub ruleset finish_laws = (program-refused, program-open, program-whole)
 

@@ -1,5 +1,6 @@
 -- One token of a walk.
-use Rattle.std.proofs.Common.{◌≡◌, ◌<◌, ◌≤◌, ◌-◌, ℕ, suc, Bool, true, List, [], ◌∷◌, ◌++◌, Some, Result, Ok, Err, length, drop, take, map, reverse, refl, sym, ap, ◌∙◌, arith, rules, length-drop}
+use Rattle.std.proofs.Common.{◌≡◌, ◌<◌, ◌≤◌, ◌-◌, ℕ, suc, Bool, true, List, [], ◌∷◌, ◌++◌, Some, Result, Ok, Err, length, drop, take, map, reverse, refl, subst, sym, ap, ◌∙◌, arith, rules, length-drop, Box}
+use Rattle.std.specs.Global.{Global}
 use Rattle.std.proofs.lemmas.List.{reverse-append, length-reverse}
 use Rattle.bqn_base.specs.declared.place.Place.{Place}
 use Rattle.bqn_base.specs.declared.refusal.Refusal.{Refusal}
@@ -11,7 +12,7 @@ use Rattle.bqn_syntax.specs.Parsing as parsing
 use Rattle.bqn_parse.specs.declared.error.ParseError.{ParseError}
 use Rattle.bqn_parse.specs.declared.error.ParseError.TheVariants.{Refused, Memory}
 use Rattle.bqn_parse.specs.declared.level.Level.{Level}
-use Rattle.bqn_parse.specs.Walking.{level_shown, Moves}
+use Rattle.bqn_parse.specs.Walking.{around_shown, level_shown, Moves}
 
 -- what the innermost level answers, the walk does
 pub goes-on : {X : Type 0} (outer : List parsing.Level) (answer : Result parsing.Level Refusal) (new : parsing.Level) (result : Result X ParseError) → Moves answer new result → Moves (parsing.go_on outer answer) (parsing.levels new outer) result
@@ -19,15 +20,19 @@ goes-on outer answer new (Ok done) moves = ap (parsing.go_on outer) moves
 goes-on outer answer new (Err (Refused r)) moves = ap (parsing.go_on outer) moves
 goes-on outer answer new (Err Memory) moves = tt
 
+-- the same, where the innermost level was read in this place
+pub goes-on-at : {X : Type 0} (tokens : List Token) (outer : List parsing.Level) (f : parsing.Level → Result parsing.Level Refusal) (read now : Level) (new : parsing.Level) (result : Result X ParseError) → read ≡ now → Moves (f (level_shown tokens read)) new result → Moves (parsing.go_on outer (f (level_shown tokens now))) (parsing.levels new outer) result
+goes-on-at {X} tokens outer f read now new result same moves = goes-on outer (f (level_shown tokens now)) new result (subst (λ (l : Level). Moves (f (level_shown tokens l)) new result) same moves)
+
 length-each : {A B : Type 0} (f : A → B) (xs : List A) → length (map f xs) ≡ length xs
 length-each f [] = refl
 length-each f (x ∷ xs) = ap (λ (n : ℕ). suc n) (length-each f xs)
 
-pub length-outer : (tokens : List Token) (outer : List Level) → length (map (level_shown tokens) (reverse outer)) ≡ length outer
-length-outer tokens outer = length-each (level_shown tokens) (reverse outer) ∙ length-reverse outer
+pub length-outer : (tokens : List Token) (outer : List (Box Level Global)) → length (around_shown tokens outer) ≡ length outer
+length-outer tokens outer = length-each (λ l. level_shown tokens l.value) (reverse outer) ∙ length-reverse outer
 
-pub pushed-shown : (tokens : List Token) (outer : List Level) (around : Level) → map (level_shown tokens) (reverse (outer ++ around ∷ [])) ≡ level_shown tokens around ∷ map (level_shown tokens) (reverse outer)
-pushed-shown tokens outer around = ap (map (level_shown tokens)) (reverse-append outer (around ∷ []))
+pub pushed-shown : (tokens : List Token) (outer : List (Box Level Global)) (around : Box Level Global) → around_shown tokens (outer ++ around ∷ []) ≡ level_shown tokens around.value ∷ around_shown tokens outer
+pushed-shown tokens outer around = ap (map (λ (l : Box Level Global). level_shown tokens l.value)) (reverse-append outer (around ∷ []))
 
 pub ruleset open_laws = (length-outer, pushed-shown)
 

@@ -1,5 +1,6 @@
 -- What the levels of a walk show, and what a step of it gives.
-use Rattle.std.specs.Prelude.{◌≡◌, ℕ, List, [], drop, map, reverse, Option, Some, None, Result, Ok, Err}
+use Rattle.std.specs.Prelude.{◌≡◌, ℕ, List, [], drop, map, reverse, Option, Some, None, Result, Ok, Err, Box}
+use Rattle.std.specs.Global.{Global}
 use Rattle.std.specs.Option.{option_map}
 use Rattle.bqn_base.specs.declared.refusal.Refusal.{Refusal}
 use Rattle.bqn_syntax.specs.declared.token.Token.{Token}
@@ -30,8 +31,12 @@ level_shown tokens l = record {
   done = map body_of l.done.items;
 }
 
+-- the levels around, the innermost first
+abbrev pub around_shown : List Token → List (Box Level Global) → List parsing.Level
+around_shown tokens outer = map (λ l. level_shown tokens l.value) (reverse outer)
+
 abbrev pub walk_shown : List Token → Walk → parsing.Levels
-walk_shown tokens w = parsing.levels (level_shown tokens w.level) (map (level_shown tokens) (reverse w.outer.items))
+walk_shown tokens w = parsing.levels (level_shown tokens w.level.value) (around_shown tokens w.outer.items)
 
 -- a walk that has read nothing
 abbrev pub start : parsing.Levels

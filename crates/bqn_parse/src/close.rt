@@ -1,11 +1,11 @@
-ghost use Rattle.std.specs.Prelude.{◌≡◌, List, map, reverse, Ok};
+ghost use Rattle.std.specs.Prelude.{◌≡◌, List, map, Ok};
 ghost use Rattle.bqn_syntax.specs.declared.token.Token.{Token};
 ghost use Rattle.bqn_base.specs.declared.place.Place.{Place};
 ghost use Rattle.bqn_syntax.specs.declared.sort.Inside.TheVariants as inside;
 ghost use Rattle.bqn_syntax.specs.Parsing as parsing;
 ghost use Rattle.bqn_syntax.specs.Plain.{expr_of};
 ghost use Rattle.bqn_parse.specs.Views.{element_of};
-ghost use Rattle.bqn_parse.specs.Walking.{level_shown, walk_shown, Made, Moves};
+ghost use Rattle.bqn_parse.specs.Walking.{around_shown, level_shown, walk_shown, Made, Moves};
 
 use crate::blocks::block;
 use crate::draft::{Draft, boxed};
@@ -13,7 +13,7 @@ use crate::ends::{push, taken};
 use crate::error::ParseError;
 use crate::item::{Element, Item};
 use crate::judge::end;
-use crate::level::{Level, Room, Walk};
+use crate::level::{Level, Walk};
 use bqn_base::{Place, Refusal, Row};
 use bqn_syntax::{Bracket, Expr, Inside, Pattern, Token};
 use std::alloc::Global;
@@ -112,29 +112,13 @@ fn close_level<'t>(
 /// An element stands in the level around, which is now the innermost one.
 #[tactic(auto, using(crate::proofs::Closing::hand_laws))]
 fn hand<'t>(place: Place, walk: &mut Walk<'t>, element: Element<'t>) -> Result<(), ParseError>
-    ensures { (tokens : List Token) → Moves (parsing.handed place (Ok (element_of element.entry)) (map (level_shown tokens) (reverse walk.old.outer.items))) (walk_shown tokens walk.new) result }
+    ensures { (tokens : List Token) → Moves (parsing.handed place (Ok (element_of element.entry)) (around_shown tokens walk.old.outer.items)) (walk_shown tokens walk.new) result }
 {
     let Some(around) = walk.outer.pop() else {
         return Err(ParseError::Refused(Refusal::Bracket(place)));
     };
-    let Level {
-        items,
-        units,
-        expressions,
-        targets,
-        statements,
-        done,
-        ..
-    } = mem::replace(&mut walk.level, around);
-    let room = Room {
-        items,
-        units,
-        expressions,
-        targets,
-        statements,
-        done,
-    };
-    push(&mut walk.spare, room)?;
+    let closed = mem::replace(&mut walk.level, around);
+    push(&mut walk.spare, closed)?;
     walk.level.and_item(Item::Standing(element))?;
     Ok(())
 }
@@ -147,7 +131,7 @@ pub fn close<'t>(
     bracket: Bracket,
     walk: &mut Walk<'t>,
 ) -> Result<(), ParseError>
-    ensures { Moves (parsing.closed (parsing.closes bracket walk.old.level.inside) place (walk_shown tokens.now walk.old)) (walk_shown tokens.now walk.new) result }
+    ensures { Moves (parsing.closed (parsing.closes bracket walk.old.level.value.inside) place (walk_shown tokens.now walk.old)) (walk_shown tokens.now walk.new) result }
 {
     if !closes(bracket, walk.level.inside) {
         return Err(ParseError::Refused(Refusal::Bracket(place)));

@@ -1,4 +1,4 @@
-ghost use Rattle.std.specs.Prelude.{◌≡◌, List, map, drop, IfOk, Ok};
+ghost use Rattle.std.specs.Prelude.{◌≡◌, List, map, drop, IfOk, None, Ok};
 ghost use Rattle.std.specs.Option.{option_map};
 ghost use Rattle.bqn_syntax.specs.Parsing as parsing;
 ghost use Rattle.bqn_syntax.specs.Plain.{expr_of, header_of, pattern_of, stmt_of};
@@ -12,7 +12,6 @@ use crate::item::Item;
 use crate::unit::Unit;
 use bqn_base::{Memory, Place, Row};
 use bqn_syntax::{BodyTree, Expr, Header, Inside, Pattern, Stmt};
-use sqlite_items::Boxed;
 use std::alloc::Global;
 
 /// What is open: what its pieces stand in, the place where it opened, the index of the first token
@@ -27,76 +26,82 @@ pub struct Level<'t> {
     pub units: Vec<Unit<'t>>,
     pub expressions: Vec<Expr>,
     pub targets: Vec<Pattern>,
-    pub header: Option<Boxed<Header>>,
+    pub header: Option<Header>,
     pub statements: Vec<Stmt>,
     pub done: Vec<BodyTree>,
 }
 
-/// Room for the items and the units of a piece, and for what has been read.
-#[derive(Drop)]
-pub struct Room<'t> {
-    pub items: Vec<Item<'t>>,
-    pub units: Vec<Unit<'t>>,
-    pub expressions: Vec<Expr>,
-    pub targets: Vec<Pattern>,
-    pub statements: Vec<Stmt>,
-    pub done: Vec<BodyTree>,
-}
-
-/// The innermost level, those around it, the innermost last, and the room of levels that were closed.
+/// The innermost level, those around it, the innermost last, and levels that were closed, whose room is there to be
+/// used again.
 #[derive(Drop)]
 pub struct Walk<'t> {
-    pub level: Level<'t>,
-    pub outer: Vec<Level<'t>>,
-    pub spare: Vec<Room<'t>>,
+    pub level: Box<Level<'t>>,
+    pub outer: Vec<Box<Level<'t>>>,
+    pub spare: Vec<Box<Level<'t>>>,
 }
 
-/// Room that a closed level had, or new room.
-fn room_in<'t>(alloc: Global, spare: &mut Vec<Room<'t>>) -> Room<'t> {
+/// Takes the header, if there is one.
+#[inline(never)]
+fn take_header(header: &mut Option<Header>) -> Option<Header>
+    ensures taken { result ≡ header.old }
+    ensures left { header.new ≡ None }
+{
+    header.take()
+}
+
+/// A level that opens at a place, with nothing in it, in spare room if there is some.
+pub fn open_level<'t>(
+    alloc: Global,
+    inside: Inside,
+    opened: Place,
+    spare: &mut Vec<Box<Level<'t>>>,
+) -> Result<Box<Level<'t>>, Memory>
+    ensures { IfOk result (λ level. (tokens : List Token) → level_shown tokens level.value ≡ parsing.fresh inside opened) }
+{
     match spare.pop() {
-        Some(room) => room,
-        None => Room {
-            items: Vec::new(alloc),
-            units: Vec::new(alloc),
-            expressions: Vec::new(alloc),
-            targets: Vec::new(alloc),
-            statements: Vec::new(alloc),
-            done: Vec::new(alloc),
+        Some(mut level) => {
+            level.reopen(inside, opened);
+            Ok(level)
+        }
+        None => match Box::new(alloc, Level::new(alloc, inside, opened)) {
+            Ok(level) => Ok(level),
+            Err(_) => Err(Memory),
         },
     }
 }
 
 impl<'t> Level<'t> {
-    /// A level that opens at a place, with nothing in it, in spare room if there is some.
-    pub fn new(alloc: Global, inside: Inside, opened: Place, spare: &mut Vec<Room<'t>>) -> Level<'t>
+    /// A level that opens at a place, with nothing in it.
+    pub fn new(alloc: Global, inside: Inside, opened: Place) -> Level<'t>
         ensures { (tokens : List Token) → level_shown tokens result ≡ parsing.fresh inside opened }
     {
-        let mut room = room_in(alloc, spare);
-        room.items.clear();
-        room.expressions.clear();
-        room.targets.clear();
-        room.statements.clear();
-        room.done.clear();
-        let Room {
-            items,
-            units,
-            expressions,
-            targets,
-            statements,
-            done,
-        } = room;
         Level {
             inside,
             opened,
             first: None,
-            items,
-            units,
-            expressions,
-            targets,
+            items: Vec::new(alloc),
+            units: Vec::new(alloc),
+            expressions: Vec::new(alloc),
+            targets: Vec::new(alloc),
             header: None,
-            statements,
-            done,
+            statements: Vec::new(alloc),
+            done: Vec::new(alloc),
         }
+    }
+
+    /// Opens at another place, with nothing in it.
+    fn reopen(&mut self, inside: Inside, opened: Place)
+        ensures { (tokens : List Token) → level_shown tokens self.new ≡ parsing.fresh inside opened }
+    {
+        self.inside = inside;
+        self.opened = opened;
+        self.first = None;
+        self.items.clear();
+        self.expressions.clear();
+        self.targets.clear();
+        self.header = None;
+        self.statements.clear();
+        self.done.clear();
     }
 
     /// Says that a piece has begun by the token with this index.
@@ -153,7 +158,7 @@ impl<'t> Level<'t> {
     }
 
     /// The piece that was read is this header.
-    pub fn and_header(&mut self, h: Boxed<Header>)
+    pub fn and_header(&mut self, h: Header)
         ensures { (tokens : List Token) → level_shown tokens self.new ≡ parsing.and_header (header_of h) (level_shown tokens self.old) }
     {
         self.header = Some(h);
@@ -173,10 +178,7 @@ impl<'t> Level<'t> {
     pub fn end_body(&mut self, alloc: Global) -> Result<(), Memory>
         ensures { IfOk result (λ done. (tokens : List Token) → level_shown tokens self.new ≡ parsing.and_body (level_shown tokens self.old)) }
     {
-        let header = match self.header.take() {
-            Some(header) => Some(header.into_inner()),
-            None => None,
-        };
+        let header = take_header(&mut self.header);
         let statements = taken(alloc, &mut self.statements)?;
         self.first = None;
         self.items.clear();

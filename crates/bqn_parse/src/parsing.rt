@@ -8,7 +8,7 @@ ghost use Rattle.bqn_parse.specs.Walking.{start, walk_shown};
 
 use crate::error::ParseError;
 use crate::judge::end;
-use crate::level::{Level, Walk};
+use crate::level::{Walk, open_level};
 use crate::looks::{Ahead, ahead_of, aheads};
 use crate::step::step;
 use bqn_base::{Place, Refusal, Row};
@@ -46,7 +46,7 @@ fn walk(alloc: Global, tokens: &[Token], behind: Vec<Ahead>) -> Result<Tree, Par
     let mut left = behind;
     let mut spare = Vec::new(alloc);
     let mut walk = Walk {
-        level: Level::new(alloc, Inside::Program, NOWHERE, &mut spare),
+        level: open_level(alloc, Inside::Program, NOWHERE, &mut spare)?,
         outer: Vec::new(alloc),
         spare,
     };

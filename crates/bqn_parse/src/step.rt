@@ -7,11 +7,11 @@ ghost use Rattle.bqn_parse.specs.Views.{item_of};
 ghost use Rattle.bqn_parse.specs.Walking.{from_first, level_shown, walk_shown, Moves};
 
 use crate::close::close;
-use crate::draft::{Draft, boxed};
+use crate::draft::Draft;
 use crate::error::ParseError;
 use crate::item::{Element, Item};
 use crate::judge::{ask, end, first_place, formless};
-use crate::level::{Level, Walk};
+use crate::level::{Level, Walk, open_level};
 use crate::looks::Ahead;
 use bqn_base::{Place, Refusal};
 use bqn_headers::{HeadError, header};
@@ -91,10 +91,8 @@ fn enter<'t>(
         return Err(ParseError::Refused(Refusal::TooNested(place)));
     }
     walk.level.begin(index);
-    let around = mem::replace(
-        &mut walk.level,
-        Level::new(alloc, inside, place, &mut walk.spare),
-    );
+    let inner = open_level(alloc, inside, place, &mut walk.spare)?;
+    let around = mem::replace(&mut walk.level, inner);
     walk.outer.push(around)?;
     Ok(())
 }
@@ -107,7 +105,7 @@ fn separate<'t>(
     place: Place,
     walk: &mut Walk<'t>,
 ) -> Result<(), ParseError>
-    ensures { Moves (parsing.separated walk.old.level.inside (drop index tokens.now) place (walk_shown tokens.now walk.old)) (walk_shown tokens.now walk.new) result }
+    ensures { Moves (parsing.separated walk.old.level.value.inside (drop index tokens.now) place (walk_shown tokens.now walk.old)) (walk_shown tokens.now walk.new) result }
 {
     match walk.level.inside {
         Inside::Parens => take(index, Item::Wrong, walk),
@@ -137,7 +135,7 @@ fn semicolon<'t>(
     place: Place,
     walk: &mut Walk<'t>,
 ) -> Result<(), ParseError>
-    ensures { Moves (parsing.semicolon walk.old.level.inside (drop index tokens.now) place (walk_shown tokens.now walk.old)) (walk_shown tokens.now walk.new) result }
+    ensures { Moves (parsing.semicolon walk.old.level.value.inside (drop index tokens.now) place (walk_shown tokens.now walk.old)) (walk_shown tokens.now walk.new) result }
 {
     match walk.level.inside {
         Inside::Block => end_body(alloc, tokens, place, &mut walk.level),
@@ -153,7 +151,7 @@ fn question<'t>(
     place: Place,
     walk: &mut Walk<'t>,
 ) -> Result<(), ParseError>
-    ensures { Moves (parsing.question walk.old.level.inside (drop index tokens.now) place (walk_shown tokens.now walk.old)) (walk_shown tokens.now walk.new) result }
+    ensures { Moves (parsing.question walk.old.level.value.inside (drop index tokens.now) place (walk_shown tokens.now walk.old)) (walk_shown tokens.now walk.new) result }
 {
     match walk.level.inside {
         Inside::Block => ask(alloc, tokens, place, &mut walk.level),
@@ -191,7 +189,7 @@ fn head<'t>(
 {
     match header(alloc, piece(tokens, level.first, index)) {
         Ok(h) => {
-            level.and_header(boxed(alloc, h)?);
+            level.and_header(h);
             Ok(())
         }
         Err(HeadError::Bad) => Err(ParseError::Refused(Refusal::BadBlock(first_place(
@@ -235,7 +233,7 @@ fn colon<'t>(
 ) -> Result<(), ParseError>
     requires within { index ≤ length tokens.now }
     requires few { length tokens.now ≤ 2 ^ 28 }
-    ensures { Moves (parsing.colon walk.old.level.inside (drop index tokens.now) place (walk_shown tokens.now walk.old)) (walk_shown tokens.now walk.new) result }
+    ensures { Moves (parsing.colon walk.old.level.value.inside (drop index tokens.now) place (walk_shown tokens.now walk.old)) (walk_shown tokens.now walk.new) result }
 {
     match walk.level.inside {
         Inside::Block => end_head(alloc, tokens, index, place, &mut walk.level),

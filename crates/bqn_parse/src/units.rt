@@ -241,7 +241,8 @@ pub fn bind_part<'t>(
 /// Whether no operand is being read.
 #[inline(always)]
 fn is_free(bound: &Binding<'_>) -> bool
-    ensures { IsTrue result → bound.now ≡ binding.Free }
+    ensures free { IsTrue result → bound.now ≡ binding.Free }
+    ensures bound { bound.now ≡ binding.Free → IsTrue result }
 {
     matches!(bound, Binding::Free)
 }

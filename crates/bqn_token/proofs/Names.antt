@@ -1,11 +1,13 @@
 -- How words spell names.
-use Rattle.std.proofs.Common.{◌≡◌, ◌≤◌, ◌<◌, ◌+◌, ℕ, suc, List, [], ◌∷◌, Bool, true, false, Option, Some, None, length, drop, get_or, drop-cons, refl, sym, ap, ◌∙◌, arith, add-one}
+use Rattle.std.proofs.Common.{◌≡◌, ◌≤◌, ◌<◌, ◌+◌, ℕ, suc, List, [], ◌∷◌, ◌++◌, Bool, true, false, Option, Some, None, length, drop, take, get_or, drop-cons, refl, sym, ap, ◌∙◌, arith, rules, add-one}
 use Rattle.std.specs.Prelude.{cond, not, ◌==◌, ◌&&◌, ◌||◌, nat_eq, if◌then◌else◌, map, filter}
 use Rattle.std.specs.List.{list_all}
 use Rattle.std.specs.Cmp.Lexicographic.{pointwise, same_text}
 use lib.Chars.{codes}
 use Rattle.std.proofs.Math.ListN.{drop_of_length-le}
 use Rattle.std.proofs.lemmas.Bool.{eqb-true}
+use Rattle.std.proofs.lemmas.List.{map-append, take_all, take_more}
+use Rattle.std.proofs.lemmas.List.Elements.{filter-append}
 use Rattle.std.proofs.lemmas.Bool.Decides.{nat_tests}
 use Rattle.bqn_base.specs.Names.{is_name_character as is_plain}
 use Rattle.bqn_base.specs.Characters.{is_upper, is_letter}
@@ -78,6 +80,28 @@ plain-name_of (c ∷ cs) is = at (c == 95) refl (plain-name_of cs (both-right (i
     at false e rest = ap (λ (b : Bool). b && list_all is_plain (name_of cs)) (lower_case-plain c (both-left (is_name_character c) (list_all is_name_character cs) is) e) ∙ rest
 
 pub ruleset name_laws = (name_of-plain, plain-name_of)
+
+-- the letters of a name, one character after another
+name_of-more : (word : List ℕ) (i c : ℕ) → i < length word → c ≡ get_or word i c → name_of (take (i + 1) word) ≡ name_of (take i word) ++ name_of (c ∷ [])
+name_of-more word i c lt at =
+    ap (λ (w : List ℕ). name_of w) (take_more word i c lt)
+    ∙ ap (λ (x : ℕ). name_of (take i word ++ x ∷ [])) (sym at)
+    ∙ ap (map lower_case) (filter-append (λ d. not (d == 95)) (take i word) (c ∷ []))
+    ∙ map-append lower_case (filter (λ d. not (d == 95)) (take i word)) (filter (λ d. not (d == 95)) (c ∷ []))
+
+pub name_of-letter : (word : List ℕ) (i c : ℕ) → i < length word → c ≡ get_or word i c → (c ≡ 95 → ⊥) → name_of (take i word) ++ lower_case c ∷ [] ≡ name_of (take (i + 1) word)
+name_of-letter word i c lt at n =
+    sym (name_of-more word i c lt at ∙ ap (λ (b : Bool). name_of (take i word) ++ map lower_case (cond (not b) (c ∷ []) [])) (not_under c (c == 95) refl n))
+
+pub name_of-under : (word : List ℕ) (i c : ℕ) → i < length word → c ≡ get_or word i c → c ≡ 95 → name_of (take i word) ≡ name_of (take (i + 1) word)
+name_of-under word i c lt at is =
+    let none : name_of (take i word) ++ name_of (95 ∷ []) ≡ name_of (take i word) = search rules in
+    sym (name_of-more word i c lt at ∙ ap (λ (x : ℕ). name_of (take i word) ++ name_of (x ∷ [])) is ∙ none)
+
+pub name_of-all : (word : List ℕ) (i : ℕ) → length word ≤ i → name_of (take i word) ≡ name_of word
+name_of-all word i le = ap (λ (w : List ℕ). name_of w) (take_all i word le)
+
+pub ruleset letter_laws = (name_of-letter, name_of-under, name_of-all)
 
 no_both : (word : List ℕ) → is_name_word word ≡ true → is_modifier_word word ≡ true → ⊥
 no_both word name modifier = at (pointwise nat_eq word (codes "𝕣")) (pointwise nat_eq word (codes "_𝕣")) (pointwise nat_eq word (codes "_𝕣_")) refl refl refl modifier

@@ -13,6 +13,8 @@ const ROOM: usize = 64;
 pub(crate) struct Recent {
     alloc: Global,
     names: Vec<Option<Name>>,
+    /// Room for the letters of a word that is not spelled as its name.
+    pub letters: Vec<char>,
 }
 
 /// The place in which a name with these characters is kept.
@@ -35,7 +37,11 @@ impl Recent {
                 return Err(Memory);
             };
         }
-        Ok(Recent { alloc, names })
+        Ok(Recent {
+            alloc,
+            names,
+            letters: Vec::new(alloc),
+        })
     }
 
     /// The name of these characters.

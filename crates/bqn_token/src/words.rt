@@ -1,4 +1,4 @@
-ghost use Rattle.std.specs.Prelude.{◌≡◌, IfOk, IsTrue, Ok, Some};
+ghost use Rattle.std.specs.Prelude.{◌≡◌, IfOk, IsTrue, OnOk, Ok, Some};
 ghost use Rattle.std.specs.List.{list_all};
 ghost use Rattle.bqn_base.specs.Characters.{is_lower};
 ghost use Rattle.bqn_base.specs.Names.{is_name_character as is_plain};
@@ -12,6 +12,7 @@ use bqn_base::{Memory, Name, Role};
 use bqn_roles::role;
 use bqn_syntax::{Kind, Special};
 use std::alloc::{AllocError, Global};
+use std::mem;
 
 const MODIFIER: [char; 1] = ['𝕣'];
 
@@ -99,14 +100,18 @@ fn lower(c: char) -> char
     c.to_ascii_lowercase()
 }
 
-fn lower_letters(alloc: Global, word: &[char]) -> Result<Vec<char>, AllocError>
-    ensures { IfOk result (λ letters. letters.items ≡ name_of word.now) }
+/// Puts the letters of a word, without case and underscores, in place of those that were there.
+#[tactic(auto, using(crate::proofs::Names::letter_laws))]
+fn put_letters(letters: &mut Vec<char>, word: &[char]) -> Result<(), AllocError>
+    ensures { OnOk result (letters.new.items ≡ name_of word.now) }
 {
-    word.iter()
-        .copied()
-        .filter(|c| *c != '_')
-        .map(|c| lower(c))
-        .collect(alloc)
+    letters.clear();
+    'word: for c in word {
+        if *c != '_' {
+            letters.push(lower(*c))?;
+        }
+    }
+    Ok(())
 }
 
 /// The name that a word spells with capitals or underscores.
@@ -116,10 +121,13 @@ fn respelled(alloc: Global, recent: &mut Recent, word: &[char]) -> Result<Name, 
     requires { IsTrue (list_all is_name_character word.now) }
     ensures { IfOk result (λ name. name ≡ name_of word.now) }
 {
-    let Ok(letters) = lower_letters(alloc, word) else {
+    let mut letters = mem::replace(&mut recent.letters, Vec::new(alloc));
+    let Ok(()) = put_letters(&mut letters, word) else {
         return Err(Memory);
     };
-    recent.name(letters.as_slice())
+    let name = recent.name(letters.as_slice())?;
+    recent.letters = letters;
+    Ok(name)
 }
 
 /// The name that a word spells: without case and underscores.

@@ -1,8 +1,9 @@
-use Rattle.std.proofs.Common.{◌≡◌, Bool, true, sym, subst, Result}
+use Rattle.std.proofs.Common.{◌≡◌, ◌∙◌, Bool, true, sym, ap, subst, Result}
 use Rattle.bqn_base.specs.declared.refusal.Refusal.{Refusal}
 use Rattle.bqn_syntax.specs.Items.{Element}
 use Rattle.bqn_syntax.specs.Parsing as parsing
-use Rattle.bqn_parse.specs.Walking.{walk_shown, Moves}
+use Rattle.bqn_parse.specs.declared.level.Level.{Level}
+use Rattle.bqn_parse.specs.Walking.{level_shown, walk_shown, Moves}
 use Rattle.bqn_parse.proofs.close.close.Goals as goal
 
 pub returns : goal.returns
@@ -10,6 +11,10 @@ returns c =
     let tokens = c.args.tokens.now in
     let so = walk_shown tokens c.args.walk.now in
     let new = walk_shown tokens c.hand.new.walk in
-    let e : true ≡ parsing.closes c.args.bracket c.args.walk.now.level.inside = cc (c.if-not-closes.ensures) in
+    let level = c.args.walk.now.level.value in
+    let written : c.deref_mut.result.now ≡ level = cc in
+    let e : true ≡ parsing.closes c.args.bracket level.inside = cc (c.if-not-closes.ensures) in
     subst (λ (b : Bool). Moves (parsing.closed b c.args.place so) new c.hand.result) e
-    (subst (λ (x : Result Element Refusal). Moves (parsing.handed c.args.place x so.outer) new c.hand.result) (sym c.in_ok-element.ensures) (c.hand.ensures tokens))
+    (subst (λ (x : Result Element Refusal). Moves (parsing.handed c.args.place x so.outer) new c.hand.result)
+    (sym (ap (λ (l : Level). parsing.whole_of c.args.place (parsing.ended c.args.place (level_shown tokens l))) (sym written) ∙ c.in_ok-element.ensures))
+    (c.hand.ensures tokens))

@@ -1,10 +1,10 @@
-use Rattle.std.proofs.Common.{◌≡◌, ◌++◌, ◌∷◌, [], ◌∙◌, map, reverse, ap, sym, rules, Ok}
+use Rattle.std.proofs.Common.{◌≡◌, ◌++◌, ◌∷◌, [], ◌∙◌, ap, sym, rules, Ok}
 use Rattle.bqn_syntax.specs.Parsing as parsing
 use Rattle.bqn_syntax.specs.Items.{Standing}
 use Rattle.bqn_parse.specs.declared.level.Level.{Level}
 use Rattle.bqn_parse.specs.Views.{element_of}
-use Rattle.bqn_parse.specs.Walking.{level_shown}
-use Rattle.bqn_parse.proofs.Closing.{around-shown}
+use Rattle.bqn_parse.specs.Walking.{around_shown, level_shown}
+use Rattle.bqn_parse.proofs.Closing.{around-popped}
 use Rattle.bqn_parse.proofs.close.hand.Goals as goal
 
 pub returns : goal.returns
@@ -13,6 +13,6 @@ returns c = λ tokens.
     let rest = c.pop.new.self.items in
     let around = c.in-Some.around in
     let e : outer ≡ rest ++ around ∷ [] = search rules in
-    let replaced : c.replace-items.new.dest ≡ around = cc in
-    ap (parsing.handed c.args.place (Ok (element_of c.args.element))) (around-shown tokens outer rest around e)
-    ∙ ap (λ (l : parsing.Level). Ok (parsing.levels l (map (level_shown tokens) (reverse rest)))) (ap (λ (l : Level). parsing.and_item (Standing (element_of c.args.element)) (level_shown tokens l)) (sym replaced) ∙ sym (c.in_ok-and_item.ensures tokens))
+    let level : c.deref_mut.result.now ≡ around.value = cc in
+    ap (parsing.handed c.args.place (Ok (element_of c.args.element))) (around-popped tokens outer rest around e)
+    ∙ ap (λ (l : parsing.Level). Ok (parsing.levels l (around_shown tokens rest))) (ap (λ (l : Level). parsing.and_item (Standing (element_of c.args.element)) (level_shown tokens l)) (sym level) ∙ sym (c.in_ok-and_item.ensures tokens))

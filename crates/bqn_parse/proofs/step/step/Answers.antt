@@ -1,9 +1,10 @@
-use Rattle.std.proofs.Common.{drop, subst}
+use Rattle.std.proofs.Common.{◌≡◌, ◌∙◌, ap, drop, subst}
 use Rattle.bqn_syntax.specs.declared.sort.Inside.{Inside}
 use Rattle.bqn_syntax.specs.declared.sort.Sort.{Sort}
 use Rattle.bqn_syntax.specs.Parsing as parsing
+use Rattle.bqn_parse.specs.declared.level.Level.{Level}
 use Rattle.bqn_parse.specs.Looking.{ahead_shown}
-use Rattle.bqn_parse.specs.Walking.{walk_shown, Moves}
+use Rattle.bqn_parse.specs.Walking.{level_shown, walk_shown, Moves}
 use Rattle.bqn_parse.proofs.step.step.Goals as goal
 
 pub returns-in-Opens : goal.returns-in-Opens
@@ -11,8 +12,9 @@ returns-in-Opens c =
     let tokens = c.args.tokens.now in
     let so = walk_shown tokens c.args.walk.now in
     let new = walk_shown tokens c.enter.new.walk in
+    let read : c.deref.result.now ≡ c.args.walk.now.level.value = cc in
     subst (λ (s : Sort). Moves (parsing.step s (ahead_shown c.args.ahead) c.args.token.now (drop c.args.index tokens) so) new c.enter.result) c.in-Opens.ensures
-    (subst (λ (i : Inside). Moves (parsing.opened i (drop c.args.index tokens) c.args.token.now.place so) new c.enter.result) (c.inside_of-inside.ensures tokens) (c.enter.ensures tokens))
+    (subst (λ (i : Inside). Moves (parsing.opened i (drop c.args.index tokens) c.args.token.now.place so) new c.enter.result) (c.inside_of-inside.ensures tokens ∙ ap (λ (l : Level). parsing.inside_of c.in-Opens.bracket (ahead_shown c.args.ahead) (level_shown tokens l)) read) (c.enter.ensures tokens))
 
 pub returns-in-Draws : goal.returns-in-Draws
 returns-in-Draws c =

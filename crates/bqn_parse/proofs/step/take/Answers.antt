@@ -1,8 +1,13 @@
-use Rattle.std.proofs.Common.{◌∙◌, map, reverse, ap, sym, Ok}
+use Rattle.std.proofs.Common.{◌≡◌, ◌∙◌, ap, sym, drop, Ok}
 use Rattle.bqn_syntax.specs.Parsing as parsing
+use Rattle.bqn_parse.specs.declared.level.Level.{Level}
 use Rattle.bqn_parse.specs.Views.{item_of}
-use Rattle.bqn_parse.specs.Walking.{level_shown}
+use Rattle.bqn_parse.specs.Walking.{around_shown, level_shown}
 use Rattle.bqn_parse.proofs.step.take.Goals as goal
 
 pub returns : goal.returns
-returns c = λ tokens. ap (λ (l : parsing.Level). Ok (parsing.levels l (map (level_shown tokens) (reverse c.args.walk.now.outer.items)))) (ap (parsing.and_item (item_of c.args.item)) (sym (c.begin.ensures tokens)) ∙ sym (c.in_ok-and_item.ensures tokens))
+returns c = λ tokens.
+    let before : c.deref_mut.result.now ≡ c.args.walk.now.level.value = cc in
+    let begun : c.deref_mut-2.result.now ≡ c.begin.new.self = cc in
+    ap (λ (l : parsing.Level). Ok (parsing.levels l (around_shown tokens c.args.walk.now.outer.items)))
+    (ap (parsing.and_item (item_of c.args.item)) (sym (ap (level_shown tokens) begun ∙ c.begin.ensures tokens ∙ ap (λ (l : Level). parsing.begun (drop c.args.index tokens) (level_shown tokens l)) before)) ∙ sym (c.in_ok-and_item.ensures tokens))
