@@ -7,6 +7,7 @@ use Rattle.bqn_base.specs.Plain.{Atop, Fork, Value, Number, Character, Given, De
 use Rattle.bqn_base.specs.Primitives as p
 use Rattle.bqn_base.specs.Primitives.{Primitive, primitives, monadic, dyadic}
 use Rattle.bqn_base.specs.Shown.{shown, spelling, primitive_signs}
+use Rattle.bqn_base.specs.Raised.{unplaced}
 use Rattle.bqn_base.specs.Calls.{alone, two, no_arguments, run_block}
 use Rattle.bqn_base.specs.Questions.{next, walk, Outcome, Asks, Enter, Write}
 
@@ -315,17 +316,17 @@ constant_part : next (Derived Fork (more (n 2) (more times (more minus none)))) 
 constant_part = refl
 
 -- the right part is called first
-right_part_first : next (Derived Fork (more (Given 44) (more plus (more (Modifier1 1 0) none)))) None (n 5) 1000 [] ≡ Outcome (Err NotCallable)
+right_part_first : next (Derived Fork (more (Given 44) (more plus (more (Modifier1 1 0) none)))) None (n 5) 1000 [] ≡ Outcome (Err (unplaced NotCallable))
 right_part_first = refl
 
-fault_of_the_right_part : next (Derived Fork (more (Given 44) (more plus (more (Given 3) none)))) None (n 0) 1000 [] ≡ Outcome (Err DivideByZero)
+fault_of_the_right_part : next (Derived Fork (more (Given 44) (more plus (more (Given 3) none)))) None (n 0) 1000 [] ≡ Outcome (Err (unplaced DivideByZero))
 fault_of_the_right_part = refl
 
-no_room : next (Derived Atop (more minus (more plus none))) None (n 5) 0 [] ≡ Outcome (Err TooDeep)
+no_room : next (Derived Atop (more minus (more plus none))) None (n 5) 0 [] ≡ Outcome (Err (unplaced TooDeep))
 no_room = refl
 
 -- a train in a train is one more open call
-no_room_inside : next (Derived Atop (more minus (more (Derived Atop (more minus (more plus none))) none))) None (n 5) 1 [] ≡ Outcome (Err TooDeep)
+no_room_inside : next (Derived Atop (more minus (more (Derived Atop (more minus (more plus none))) none))) None (n 5) 1 [] ≡ Outcome (Err (unplaced TooDeep))
 no_room_inside = refl
 
 constant : next (n 5) (Some (n 1)) (n 2) 0 [] ≡ Outcome (Ok (n 5))
@@ -334,7 +335,7 @@ constant = refl
 namespace_is_constant : next (Namespace 3) None (n 2) 0 [] ≡ Outcome (Ok (Namespace 3))
 namespace_is_constant = refl
 
-modifier_is_not_callable : next (Given 47) None (n 2) 1000 [] ≡ Outcome (Err NotCallable)
+modifier_is_not_callable : next (Given 47) None (n 2) 1000 [] ≡ Outcome (Err (unplaced NotCallable))
 modifier_is_not_callable = refl
 
 block_asks : next (Function 1 0 (more plus none)) None (n 5) 1000 [] ≡ Asks (Enter 1 0 (more plus none) (alone (n 5)) 999)
@@ -343,7 +344,7 @@ block_asks = refl
 block_is_answered : next (Function 1 0 none) (Some (n 1)) (n 5) 1000 (Ok (n 6) ∷ []) ≡ Outcome (Ok (n 6))
 block_is_answered = refl
 
-block_without_room : next (Function 1 0 none) (Some (n 1)) (n 5) 0 [] ≡ Outcome (Err TooDeep)
+block_without_room : next (Function 1 0 none) (Some (n 1)) (n 5) 0 [] ≡ Outcome (Err (unplaced TooDeep))
 block_without_room = refl
 
 -- a train of two blocks asks for the right one, then for the left one on its answer
@@ -353,7 +354,7 @@ first_question = refl
 second_question : next (Derived Atop (more (Function 1 0 none) (more (Function 2 0 none) none))) (Some (n 1)) (n 5) 1000 (Ok (n 7) ∷ []) ≡ Asks (Enter 1 0 none (alone (n 7)) 998)
 second_question = refl
 
-fault_as_reply : next (Derived Atop (more (Function 1 0 none) (more (Function 2 0 none) none))) (Some (n 1)) (n 5) 1000 (Err NoBody ∷ []) ≡ Outcome (Err NoBody)
+fault_as_reply : next (Derived Atop (more (Function 1 0 none) (more (Function 2 0 none) none))) (Some (n 1)) (n 5) 1000 (Err (unplaced NoBody) ∷ []) ≡ Outcome (Err (unplaced NoBody))
 fault_as_reply = refl
 
 show_writes : next (Given 65) None (m 20) 0 [] ≡ Asks (Write (codes "¯21" ++ 10 ∷ []))
@@ -363,7 +364,7 @@ show_writes = refl
 show_answers : next (Given 65) None (m 20) 0 (Ok (n 0) ∷ []) ≡ Outcome (Ok (m 20))
 show_answers = refl
 
-show_with_left_argument : next (Given 65) (Some (n 1)) (n 2) 0 [] ≡ Outcome (Err Domain)
+show_with_left_argument : next (Given 65) (Some (n 1)) (n 2) 0 [] ≡ Outcome (Err (unplaced Domain))
 show_with_left_argument = refl
 
 type_of_function : next (Given 68) None plus 0 [] ≡ Outcome (Ok (n 3))

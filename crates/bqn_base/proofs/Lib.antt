@@ -11,3 +11,4 @@ pub mod Roots
 mod Samples
 mod ValueSamples
 mod CallSamples
+pub mod Stamping

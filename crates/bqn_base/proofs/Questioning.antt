@@ -1,15 +1,12 @@
 -- The walk through a call asks and answers as a run of the call on the same replies does.
-use Rattle.std.proofs.Common.{◌≡◌, ℕ, zero, suc, List, [], ◌∷◌, Result, Err, refl, ◌∙◌}
-use Rattle.bqn_base.specs.declared.fault.Fault.{Fault}
+use Rattle.std.proofs.Common.{◌≡◌, ℕ, zero, suc, List, [], ◌∷◌, Err, refl, ◌∙◌}
 use Rattle.bqn_base.specs.declared.fault.Fault.TheVariants.{TooDeep}
 use Rattle.bqn_base.specs.Plain.{Value}
+use Rattle.bqn_base.specs.Raised.{Answer, unplaced}
 use Rattle.bqn_base.specs.Calls as c
 use Rattle.bqn_base.specs.Calls.{Arguments, Call, call}
 use Rattle.bqn_base.specs.Running.{Res, Gives, Ends, then_do, calls}
 use Rattle.bqn_base.specs.Questions.{Question, Enter, Turn, Write, Reply, Next, Outcome, Asks, asked, walk, replied, passed, from_replies, seen, QuestionsAreOfTheCall}
-
-abbrev Answer : Type 0
-Answer = Result Value Fault
 
 -- what comes after a run
 abbrev onward : {A : Type 0} → Res Question (List Reply) A → (A → List Reply → Next) → Next
@@ -31,7 +28,7 @@ asked-passed q go (r ∷ rs) = refl
 walk-run : (t : Call) (room : ℕ) (after : Answer → List Reply → Next) (replies : List Reply) → walk t room after replies ≡ onward (calls from_replies room t replies) after
 walk-run (c.End r) zero after replies = refl
 walk-run (c.End r) (suc n) after replies = refl
-walk-run (c.Enter block environment operands given go) zero after replies = walk-run (go (Err TooDeep)) zero after replies
+walk-run (c.Enter block environment operands given go) zero after replies = walk-run (go (Err (unplaced TooDeep))) zero after replies
 walk-run (c.Enter block environment operands given go) (suc n) after replies =
     asked-replied (Enter block environment operands given n) (λ r. walk (go r) (suc n) after) replies
     ∙ onward-then (replied (Enter block environment operands given n) replies) (λ r. calls from_replies (suc n) (go r)) after (λ r. walk (go r) (suc n) after) (λ r. walk-run (go r) (suc n) after)
@@ -47,7 +44,7 @@ walk-run (c.Write text go) zero after replies =
 walk-run (c.Write text go) (suc n) after replies =
     asked-passed (Write text) (λ u. walk (go u) (suc n) after) replies
     ∙ onward-then (passed (Write text) replies) (λ u. calls from_replies (suc n) (go u)) after (λ u. walk (go u) (suc n) after) (λ u. walk-run (go u) (suc n) after)
-walk-run (c.Inside t go) zero after replies = walk-run (go (Err TooDeep)) zero after replies
+walk-run (c.Inside t go) zero after replies = walk-run (go (Err (unplaced TooDeep))) zero after replies
 walk-run (c.Inside t go) (suc n) after replies =
     walk-run t n (λ r. walk (go r) (suc n) after) replies
     ∙ onward-then (calls from_replies n t replies) (λ r. calls from_replies (suc n) (go r)) after (λ r. walk (go r) (suc n) after) (λ r. walk-run (go r) (suc n) after)

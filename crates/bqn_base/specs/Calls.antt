@@ -7,6 +7,7 @@ use Rattle.bqn_base.specs.Plain.{Atop, Fork, Value, Number, Character, Array, Gi
 use Rattle.bqn_base.specs.Primitives.{Primitive, primitives, monadic, dyadic, row_to_come}
 use Rattle.bqn_base.specs.Printed.{line}
 use Rattle.bqn_base.specs.Shown.{shown}
+use Rattle.bqn_base.specs.Raised.{Answer, unplaced, raised}
 
 -- what a block is run on: nothing, a right argument, or a left one too
 pub data Arguments : Type 0 where
@@ -18,11 +19,11 @@ pub data Arguments : Type 0 where
 -- environment, which is one more open call; Turn for one step, and Write for a text to be written, whose replies say nothing.
 -- What stands Inside is one more open call, and `go` goes on with its answer.
 pub data Call : Type 0 where
-  End : Result Value Fault → Call
-  Enter : (block environment : ℕ) (operands : Values) → Arguments → (go : Result Value Fault → Call) → Call
+  End : Answer → Call
+  Enter : (block environment : ℕ) (operands : Values) → Arguments → (go : Answer → Call) → Call
   Turn : (go : Unit {0} → Call) → Call
   Write : (text : List ℕ) → (go : Unit {0} → Call) → Call
-  Inside : Call → (go : Result Value Fault → Call) → Call
+  Inside : Call → (go : Answer → Call) → Call
 
 -- a call that answers at once
 abbrev pub answer : Value → Call
@@ -30,12 +31,16 @@ answer v = End (Ok v)
 
 -- a call that faults at once
 abbrev pub fault : Fault → Call
-fault f = End (Err f)
+fault f = End (Err (unplaced f))
+
+-- a call that ends so at once
+abbrev pub known : Result Value Fault → Call
+known r = End (raised r)
 
 -- the next call, or the fault that ended the first
-abbrev pub ended : Result Value Fault → (Value → Call) → Call
+abbrev pub ended : Answer → (Value → Call) → Call
 ended (Ok v) next = next v
-ended (Err f) next = fault f
+ended (Err r) next = End (Err r)
 
 -- one call, and with its answer the next; a fault ends both
 infixl 10 ◌>>=◌
@@ -70,9 +75,9 @@ systems = out ∷ show ∷ repr ∷ format ∷ type ∷ []
 abbrev pub system_call : System → Value → Call
 system_call show x = Write (line (shown x)) (λ u. answer x)
 system_call type x = answer (Number (pos (kind_number (kind x))))
-system_call out (Array shape xs f) = End row_to_come
+system_call out (Array shape xs f) = known row_to_come
 system_call out x = fault Domain
-system_call _ x = End row_to_come
+system_call _ x = known row_to_come
 
 -- a system function has no left argument; a primitive modifier is no function
 abbrev pub called_system : Option System → Option Value → Value → Call
@@ -83,7 +88,7 @@ called_system (Some f) (Some w) x = fault Domain
 -- a call of the given value with this code
 abbrev pub given_call : ℕ → Option Value → Value → Call
 given_call code w x =
-    elim (nat_lt code 64) [ true ↦ End (primitive_answer (slice_get primitives code) w x) | false ↦ called_system (slice_get systems (code - 64)) w x ]
+    elim (nat_lt code 64) [ true ↦ known (primitive_answer (slice_get primitives code) w x) | false ↦ called_system (slice_get systems (code - 64)) w x ]
 
 -- ---- functions
 

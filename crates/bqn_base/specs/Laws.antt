@@ -2,6 +2,9 @@
 use Rattle.std.specs.Prelude.{◌≡◌, ◌≤◌, ◌^◌, ◌↔◌, ℕ, suc, nat_eq, ℤ, Bool, true, false, ◌&&◌, List, [], ◌∷◌, length, Option, Some, None, Ok}
 use Rattle.std.specs.Cmp.{IsTotalOrder}
 use Rattle.std.specs.declared.cmp.Ordering.TheVariants.{Equal}
+use Rattle.bqn_base.specs.declared.fault.Fault.{Fault}
+use Rattle.bqn_base.specs.declared.place.Place.{Place}
+use Rattle.bqn_base.specs.Raised.{Raised, unplaced, nowhere, stamped}
 use Rattle.bqn_base.specs.Plain.{Maker, Value, Number, Character, Array, Values, none, more, Fill, unfilled, count}
 use Rattle.bqn_base.specs.Relations.{weight, height, same, prototype, fill_of, matching, ordered, levels, is_level}
 use Rattle.bqn_base.specs.Limits.{places, size, made, array, derived, block_function, is_made_of, is_same_as, proper, all_proper}
@@ -89,6 +92,15 @@ pub record PrototypesAreFills : Type 0 where
   pub height_kept : (v p : Value) → prototype v ≡ Some p → height p ≡ height v
   pub proper_kept : (v p : Value) → proper v ≡ true → prototype v ≡ Some p → proper p ≡ true
   pub fill : (v p : Value) → proper v ≡ true → fill_of v ≡ Some p → IsFill (Some p)
+
+-- ---- places
+
+-- a place that is there stays, one that has none gets this one, and none where this is none
+pub record PlacesStay : Type 0 where
+  pub kept : (p q : Place) (f : Fault) → stamped p (record { fault = f; place = Some q }) ≡ record { fault = f; place = Some q }
+  pub given : (line column : ℕ) (f : Fault) → stamped (record { line = suc line; column = column }) (unplaced f) ≡ record { fault = f; place = Some (record { line = suc line; column = column }) }
+  pub no_place : (r : Raised) → stamped nowhere r ≡ r
+  pub once : (p q : Place) (r : Raised) → stamped p (stamped p r) ≡ stamped p r
 
 -- ---- numbers
 

@@ -10,6 +10,7 @@ pub mod Numbers
 pub mod Atoms
 pub mod Primitives
 pub mod Shown
+pub mod Raised
 pub mod Calls
 pub mod Running
 pub mod Questions

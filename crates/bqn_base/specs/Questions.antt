@@ -1,8 +1,8 @@
 -- A call as a reader of a specification looks for it: given the replies so far, its outcome or its next question. This project's own.
-use Rattle.std.specs.Prelude.{◌≡◌, ℕ, zero, suc, List, [], ◌∷◌, Option, Result, Err}
-use Rattle.bqn_base.specs.declared.fault.Fault.{Fault}
+use Rattle.std.specs.Prelude.{◌≡◌, ℕ, zero, suc, List, [], ◌∷◌, Option, Err}
 use Rattle.bqn_base.specs.declared.fault.Fault.TheVariants.{TooDeep}
 use Rattle.bqn_base.specs.Plain.{Value, Values}
+use Rattle.bqn_base.specs.Raised.{Answer, unplaced}
 use Rattle.bqn_base.specs.Calls as c
 use Rattle.bqn_base.specs.Calls.{Arguments, Call, call}
 use Rattle.bqn_base.specs.Running.{Res, Gives, Ends, Replies, calls}
@@ -15,10 +15,10 @@ pub data Question : Type 0 where
 
 -- a reply; to a step or a text it says nothing, and is not looked at
 abbrev pub Reply : Type 0
-Reply = Result Value Fault
+Reply = Answer
 
 pub data Next : Type 0 where
-  Outcome : Result Value Fault → Next
+  Outcome : Answer → Next
   Asks : Question → Next
 
 -- a question, or with the first of the replies what comes after it
@@ -32,13 +32,13 @@ opened zero refused inside = refused
 opened (suc room) refused inside = inside room
 
 -- a call with room for so many open ones, and what comes after its outcome
-abbrev pub walk : Call → ℕ → (Result Value Fault → List Reply → Next) → List Reply → Next
+abbrev pub walk : Call → ℕ → (Answer → List Reply → Next) → List Reply → Next
 walk (c.End r) room after = after r
 walk (c.Enter block environment operands arguments go) room after =
-    opened room (walk (go (Err TooDeep)) room after) (λ n. asked (Enter block environment operands arguments n) (λ r. walk (go r) room after))
+    opened room (walk (go (Err (unplaced TooDeep))) room after) (λ n. asked (Enter block environment operands arguments n) (λ r. walk (go r) room after))
 walk (c.Turn go) room after = asked Turn (λ r. walk (go tt) room after)
 walk (c.Write text go) room after = asked (Write text) (λ r. walk (go tt) room after)
-walk (c.Inside t go) room after = opened room (walk (go (Err TooDeep)) room after) (λ n. walk t n (λ r. walk (go r) room after))
+walk (c.Inside t go) room after = opened room (walk (go (Err (unplaced TooDeep))) room after) (λ n. walk t n (λ r. walk (go r) room after))
 
 -- the outcome of a call of f, or its next question, after these replies
 abbrev pub next : (f : Value) (w : Option Value) (x : Value) (room : ℕ) → List Reply → Next
@@ -61,7 +61,7 @@ from_replies = record {
   write = λ text. passed (Write text);
 }
 
-abbrev pub seen : Res Question (List Reply) (Result Value Fault) → Next
+abbrev pub seen : Res Question (List Reply) Answer → Next
 seen (Gives r rest) = Outcome r
 seen (Ends q) = Asks q
 

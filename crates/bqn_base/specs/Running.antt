@@ -1,8 +1,8 @@
 -- How a call runs in an evaluation that keeps a state of type S, and that may end at an X instead: this project's own.
-use Rattle.std.specs.Prelude.{ℕ, zero, suc, List, Result, Err}
-use Rattle.bqn_base.specs.declared.fault.Fault.{Fault}
+use Rattle.std.specs.Prelude.{ℕ, zero, suc, List, Err}
 use Rattle.bqn_base.specs.declared.fault.Fault.TheVariants.{TooDeep}
-use Rattle.bqn_base.specs.Plain.{Value, Values}
+use Rattle.bqn_base.specs.Plain.{Values}
+use Rattle.bqn_base.specs.Raised.{Answer, unplaced}
 use Rattle.bqn_base.specs.Calls.{Arguments, Call, End, Enter, Turn, Write, Inside}
 
 -- an answer and the state after it, or what ended the evaluation
@@ -16,16 +16,16 @@ then_do (Ends x) next = Ends x
 
 -- how calls run
 abbrev pub Runs : (X S : Type 0) → Type 0
-Runs X S = Call → S → Res X S (Result Value Fault)
+Runs X S = Call → S → Res X S Answer
 
 -- what an evaluation does where a call asks. Entering a block it is told how many calls may still be open, and how these run.
 pub record Replies (X S : Type 0) : Type 0 where
-  pub enter : (room : ℕ) → Runs X S → (block environment : ℕ) → Values → Arguments → S → Res X S (Result Value Fault)
+  pub enter : (room : ℕ) → Runs X S → (block environment : ℕ) → Values → Arguments → S → Res X S Answer
   pub turn : S → Res X S (Unit {0})
   pub write : List ℕ → S → Res X S (Unit {0})
 
 -- a call, given how blocks are entered and how the calls inside it run
-module _ {X S : Type 0} (replies : Replies X S) (enter : (block environment : ℕ) → Values → Arguments → S → Res X S (Result Value Fault)) (inner : Runs X S) where
+module _ {X S : Type 0} (replies : Replies X S) (enter : (block environment : ℕ) → Values → Arguments → S → Res X S Answer) (inner : Runs X S) where
   abbrev pub run : Runs X S
   run (End r) s = Gives r s
   run (Enter block environment operands arguments go) s = then_do (enter block environment operands arguments s) (λ r. run (go r))
@@ -35,5 +35,5 @@ module _ {X S : Type 0} (replies : Replies X S) (enter : (block environment : �
 
 -- a call where at most so many may be open inside it; one more is TooDeep
 abbrev pub calls : {X S : Type 0} → Replies X S → (room : ℕ) → Runs X S
-calls replies zero = run replies (λ block environment operands arguments s. Gives (Err TooDeep) s) (λ t s. Gives (Err TooDeep) s)
+calls replies zero = run replies (λ block environment operands arguments s. Gives (Err (unplaced TooDeep)) s) (λ t s. Gives (Err (unplaced TooDeep)) s)
 calls replies (suc room) = run replies (replies.enter room (calls replies room)) (calls replies room)

@@ -1,6 +1,6 @@
 //! What holds of the definitions themselves: nothing runs here.
 
-ghost use Rattle.bqn_base.specs.Laws.{MatchIsEquality, SameIsEquality, OrderIsTotal, LevelsAreOfElements, MadeIsWithinLimits, PrototypesAreFills, RootsAreFound};
+ghost use Rattle.bqn_base.specs.Laws.{MatchIsEquality, SameIsEquality, OrderIsTotal, LevelsAreOfElements, MadeIsWithinLimits, PrototypesAreFills, RootsAreFound, PlacesStay};
 ghost use Rattle.bqn_base.specs.Questions.{QuestionsAreOfTheCall};
 
 /// Match is equality of data up to fills: reflexive there, symmetric and transitive.
@@ -49,4 +49,10 @@ pub fn roots_are_found()
 #[tactic(auto, using(crate::proofs::Questioning::question_laws))]
 pub fn questions_are_of_the_call()
     ensures { QuestionsAreOfTheCall }
+{}
+
+/// A fault that has a place keeps it; one that has none gets the place of the operation, if that has one.
+#[tactic(auto, using(crate::proofs::Stamping::place_laws))]
+pub fn places_stay()
+    ensures { PlacesStay }
 {}

@@ -1,5 +1,6 @@
 -- Patterns in assignments and headers, and fields, in small codes.
 use Rattle.std.proofs.Common.{◌≡◌, ℕ, List, [], ◌∷◌, ◌++◌, Some, refl}
+use Rattle.bqn_base.specs.Raised.{unplaced}
 use Rattle.bqn_base.specs.declared.fault.Fault.TheVariants.{Undefined, NoBody, Pattern, NoField, NothingUsed}
 use Rattle.bqn_base.specs.Plain.{Array, none, more, unfilled}
 use Rattle.bqn_syntax.specs.declared.tree.Class.TheVariants as class
@@ -43,22 +44,22 @@ dropped = refl
 kept_on_the_stack : runs 9 (code (list (a ∷ b ∷ []) ∷ []) (program 2 (pair ++ i.Bind 0 ∷ i.Return ∷ []) ∷ [])) ≡ Done (Some (Array (2 ∷ []) (more (n 4) (more (n 5) none)) unfilled))
 kept_on_the_stack = refl
 
-too_few_elements : bound (list (a ∷ [])) pair ≡ Faulted Pattern
+too_few_elements : bound (list (a ∷ [])) pair ≡ Faulted (unplaced Pattern)
 too_few_elements = refl
 
-no_list : bound (list (a ∷ [])) (i.Const 1 ∷ []) ≡ Faulted Pattern
+no_list : bound (list (a ∷ [])) (i.Const 1 ∷ []) ≡ Faulted (unplaced Pattern)
 no_list = refl
 
-no_inner_list : bound (list (a ∷ list (b ∷ []) ∷ [])) pair ≡ Faulted Pattern
+no_inner_list : bound (list (a ∷ list (b ∷ []) ∷ [])) pair ≡ Faulted (unplaced Pattern)
 no_inner_list = refl
 
-changed_without_value : bound (list (Change 0 0 0 ∷ b ∷ [])) pair ≡ Faulted Undefined
+changed_without_value : bound (list (Change 0 0 0 ∷ b ∷ [])) pair ≡ Faulted (unplaced Undefined)
 changed_without_value = refl
 
 changed_behind_definition : bound (list (a ∷ Change 0 0 0 ∷ b ∷ [])) (i.Const 1 ∷ i.Const 2 ∷ i.Const 3 ∷ i.List 3 ∷ []) ≡ Done (Some (m 0))
 changed_behind_definition = refl
 
-nothing_bound : bound a (i.Nothing ∷ []) ≡ Faulted NothingUsed
+nothing_bound : bound a (i.Nothing ∷ []) ≡ Faulted (unplaced NothingUsed)
 nothing_bound = refl
 
 -- ---- fields
@@ -79,16 +80,16 @@ both = (0, 0) ∷ (1, 1) ∷ []
 field : with_space a_alone [] (i.Field 0 ∷ i.Return ∷ []) ≡ Done (Some (n 4))
 field = refl
 
-no_field : with_space a_alone [] (i.Field 1 ∷ i.Return ∷ []) ≡ Faulted NoField
+no_field : with_space a_alone [] (i.Field 1 ∷ i.Return ∷ []) ≡ Faulted (unplaced NoField)
 no_field = refl
 
-no_name : with_space a_alone [] (i.Field 2 ∷ i.Return ∷ []) ≡ Faulted NoField
+no_name : with_space a_alone [] (i.Field 2 ∷ i.Return ∷ []) ≡ Faulted (unplaced NoField)
 no_name = refl
 
-no_namespace : runs 9 (code [] (program 0 (i.Const 1 ∷ i.Field 0 ∷ i.Return ∷ []) ∷ [])) ≡ Faulted NoField
+no_namespace : runs 9 (code [] (program 0 (i.Const 1 ∷ i.Field 0 ∷ i.Return ∷ []) ∷ [])) ≡ Faulted (unplaced NoField)
 no_namespace = refl
 
-field_without_value : runs 9 (code [] (program 0 (i.Run 1 ∷ i.Field 0 ∷ i.Return ∷ []) ∷ block class.Immediate 0 (exporting a_alone 1 (i.Space ∷ []) ∷ []) ∷ [])) ≡ Faulted Undefined
+field_without_value : runs 9 (code [] (program 0 (i.Run 1 ∷ i.Field 0 ∷ i.Return ∷ []) ∷ block class.Immediate 0 (exporting a_alone 1 (i.Space ∷ []) ∷ []) ∷ [])) ≡ Faulted (unplaced Undefined)
 field_without_value = refl
 
 -- each part takes the field of its name
@@ -98,14 +99,14 @@ by_fields exports p = with_space exports (p ∷ []) (i.Bind 0 ∷ i.Pop ∷ i.Lo
 fields_bound : by_fields both (list (b ∷ a ∷ [])) ≡ Done (Some (m 0))
 fields_bound = refl
 
-missing_field : by_fields a_alone (list (a ∷ b ∷ [])) ≡ Faulted NoField
+missing_field : by_fields a_alone (list (a ∷ b ∷ [])) ≡ Faulted (unplaced NoField)
 missing_field = refl
 
 -- a part that is no name comes before a field that is missing
-part_without_name : by_fields a_alone (list (b ∷ Skip ∷ [])) ≡ Faulted Pattern
+part_without_name : by_fields a_alone (list (b ∷ Skip ∷ [])) ≡ Faulted (unplaced Pattern)
 part_without_name = refl
 
-every_namespace : by_fields a_alone (list []) ≡ Faulted Undefined
+every_namespace : by_fields a_alone (list []) ≡ Faulted (unplaced Undefined)
 every_namespace = refl
 
 -- ---- in headers
@@ -139,14 +140,14 @@ no_comparison : matched (list (Literal 3 ∷ [])) (i.Given 0 ∷ i.List 1 ∷ []
 no_comparison = refl
 
 -- a variable without a value is a fault, and no mismatch
-change_in_header : matched (Change 0 0 0) (i.Const 3 ∷ []) ≡ Faulted Undefined
+change_in_header : matched (Change 0 0 0) (i.Const 3 ∷ []) ≡ Faulted (unplaced Undefined)
 change_in_header = refl
 
-missing_in_header : runs 9 (code (list (b ∷ []) ∷ []) (program 0 (i.Run 1 ∷ i.Block 2 ∷ i.Call1 ∷ i.Return ∷ []) ∷ block class.Immediate 0 (space a_alone ∷ []) ∷ block class.Function 0 (body 2 (i.Right ∷ i.Match 0 ∷ i.Load 0 1 ∷ i.Return ∷ []) ∷ []) ∷ [])) ≡ Faulted NoBody
+missing_in_header : runs 9 (code (list (b ∷ []) ∷ []) (program 0 (i.Run 1 ∷ i.Block 2 ∷ i.Call1 ∷ i.Return ∷ []) ∷ block class.Immediate 0 (space a_alone ∷ []) ∷ block class.Function 0 (body 2 (i.Right ∷ i.Match 0 ∷ i.Load 0 1 ∷ i.Return ∷ []) ∷ []) ∷ [])) ≡ Faulted (unplaced NoBody)
 missing_in_header = refl
 
 -- `𝕨` in a call without a left argument
-nothing_matched : runs 9 (code (Skip ∷ []) (program 0 (i.Const 1 ∷ i.Block 1 ∷ i.Call1 ∷ i.Return ∷ []) ∷ block class.Function 0 (body 0 (i.Left ∷ i.Match 0 ∷ i.Right ∷ i.Return ∷ []) ∷ []) ∷ [])) ≡ Faulted NothingUsed
+nothing_matched : runs 9 (code (Skip ∷ []) (program 0 (i.Const 1 ∷ i.Block 1 ∷ i.Call1 ∷ i.Return ∷ []) ∷ block class.Function 0 (body 0 (i.Left ∷ i.Match 0 ∷ i.Right ∷ i.Return ∷ []) ∷ []) ∷ [])) ≡ Faulted (unplaced NothingUsed)
 nothing_matched = refl
 
 -- what the first body changed outside stays: `a←1⋄{𝕊𝕩: a↩2⋄0? 3; a}5`

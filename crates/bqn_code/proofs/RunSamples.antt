@@ -1,8 +1,9 @@
 -- Steps, open calls, written bytes, and codes over the variables of earlier ones.
-use Rattle.std.proofs.Common.{◌≡◌, ℕ, [], ◌∷◌, ◌++◌, Some, refl}
+use Rattle.std.proofs.Common.{false, ◌≡◌, ℕ, [], ◌∷◌, ◌++◌, Some, refl}
 use lib.Chars.{codes}
 use lib.Utf8.{encode}
 use Rattle.std.specs.Fmt.{digits}
+use Rattle.bqn_base.specs.Raised.{unplaced}
 use Rattle.bqn_base.specs.declared.fault.Fault.TheVariants.{Undefined, TooDeep, NoField, Pattern}
 use Rattle.bqn_base.specs.Plain.{Function, none}
 use Rattle.bqn_syntax.specs.declared.tree.Class.TheVariants as class
@@ -10,7 +11,7 @@ use Rattle.bqn_code.specs.declared.instr.Instr.{Instr}
 use Rattle.bqn_code.specs.declared.instr.Instr.TheVariants as i
 use Rattle.bqn_code.specs.Plain.{Code, Define, ListPattern, patterns}
 use Rattle.bqn_code.specs.Programs.{Outcome, Done, Faulted, Spent, Kept, outcome, written, fresh, exec_within, exec_program, exec_more, kept_behind}
-use Rattle.bqn_code.proofs.SmallCodes.{n, body, exporting, block, program, code, runs, writes}
+use Rattle.bqn_code.proofs.SmallCodes.{unplaced_in, n, body, exporting, block, program, code, runs, writes}
 
 -- ---- steps
 
@@ -41,15 +42,15 @@ no_step = refl
 
 -- three calls are open in one another
 abbrev room : ℕ → Outcome
-room k = outcome (exec_within k (n 0) (fresh 9) down)
+room k = unplaced_in (outcome (exec_within k (n 0) (fresh 9) down))
 
 room_enough : room 3 ≡ Done (Some (n 5))
 room_enough = refl
 
-room_for_two : room 2 ≡ Faulted TooDeep
+room_for_two : room 2 ≡ Faulted (unplaced TooDeep)
 room_for_two = refl
 
-no_room : room 0 ≡ Faulted TooDeep
+no_room : room 0 ≡ Faulted (unplaced TooDeep)
 no_room = refl
 
 -- `{𝕊𝕩}0` with the limit of open calls
@@ -60,7 +61,7 @@ spent_first : outcome (exec_program forever [] 100) ≡ Spent
 spent_first = refl
 
 -- TooDeep comes before the step
-deep_before_step : runs 4 forever ≡ Faulted TooDeep
+deep_before_step : runs 4 forever ≡ Faulted (unplaced TooDeep)
 deep_before_step = refl
 
 spent_before_deep : runs 3 forever ≡ Spent
@@ -91,7 +92,7 @@ abbrev first : Kept
 first = kept_behind (fresh 9) first_code (exec_within 3 (n 0) (fresh 9) first_code)
 
 abbrev behind : Kept → Code → Outcome
-behind kept c = outcome (exec_within 3 (n 0) kept c)
+behind kept c = unplaced_in (outcome (exec_within 3 (n 0) kept c))
 
 abbrev then_kept : Kept → Code → Kept
 then_kept kept c = kept_behind kept c (exec_within 3 (n 0) kept c)
@@ -105,7 +106,7 @@ further_change : behind first (code [] (program 2 (i.Const 1 ∷ i.Change 0 0 �
 further_change = refl
 
 -- a new variable has no value yet
-further_variable : behind first (code [] (program 3 (i.Load 0 2 ∷ i.Return ∷ []) ∷ [])) ≡ Faulted Undefined
+further_variable : behind first (code [] (program 3 (i.Load 0 2 ∷ i.Return ∷ []) ∷ [])) ≡ Faulted (unplaced Undefined)
 further_variable = refl
 
 -- the blocks of a code are numbered behind those before it
@@ -134,7 +135,7 @@ spent_behind = refl
 abbrev faulted : Code
 faulted = code (ListPattern (patterns (Define 1 1 ∷ [])) ∷ []) (program 2 (i.Const 1 ∷ i.Change 0 0 ∷ i.Pop ∷ i.List 0 ∷ i.Bind 0 ∷ i.Return ∷ []) ∷ [])
 
-fault : behind first faulted ≡ Faulted Pattern
+fault : behind first faulted ≡ Faulted (unplaced Pattern)
 fault = refl
 
 kept_after_fault : behind (then_kept first faulted) (code [] (program 2 (i.Const 5 ∷ i.Load 0 1 ∷ i.Call1 ∷ i.Return ∷ []) ∷ [])) ≡ Done (Some (n 4))
@@ -153,12 +154,12 @@ abbrev exporter : Code
 exporter = code [] (program 1 (i.Run 1 ∷ i.Define 0 ∷ i.Return ∷ []) ∷ block class.Immediate 0 (exporting ((0, 0) ∷ []) 1 (i.Const 4 ∷ i.Define 0 ∷ i.Pop ∷ i.Space ∷ []) ∷ []) ∷ [])
 
 abbrev renamed : ℕ → Code
-renamed k = record { names = codes "b" ∷ codes "a" ∷ []; constants = []; patterns = []; blocks = program 1 (i.Load 0 0 ∷ i.Field k ∷ i.Return ∷ []) ∷ [] }
+renamed k = record { placed = false; names = codes "b" ∷ codes "a" ∷ []; constants = []; patterns = []; blocks = program 1 (i.Load 0 0 ∷ i.Field k ∷ i.Return ∷ []) ∷ [] }
 
 field_by_spelling : behind (then_kept (fresh 9) exporter) (renamed 1) ≡ Done (Some (n 4))
 field_by_spelling = refl
 
-other_spelling : behind (then_kept (fresh 9) exporter) (renamed 0) ≡ Faulted NoField
+other_spelling : behind (then_kept (fresh 9) exporter) (renamed 0) ≡ Faulted (unplaced NoField)
 other_spelling = refl
 
 -- the limit of open calls is that of a code by itself
@@ -171,8 +172,8 @@ with_the_limit = refl
 abbrev elsewhere : Instr → Code
 elsewhere x = code [] (program 1 (i.Const 1 ∷ i.Define 0 ∷ i.Pop ∷ i.Run 1 ∷ i.Return ∷ []) ∷ block class.Immediate 0 (body 1 (i.Const 2 ∷ i.Define 0 ∷ i.Pop ∷ i.Run 2 ∷ i.Return ∷ []) ∷ []) ∷ block class.Immediate 0 (body 0 (i.Const 3 ∷ x ∷ i.Return ∷ []) ∷ []) ∷ [])
 
-not_read : runs 9 (elsewhere (i.Load 1 0)) ≡ Faulted Undefined
+not_read : runs 9 (elsewhere (i.Load 1 0)) ≡ Faulted (unplaced Undefined)
 not_read = refl
 
-not_changed : runs 9 (elsewhere (i.Change 1 0)) ≡ Faulted Undefined
+not_changed : runs 9 (elsewhere (i.Change 1 0)) ≡ Faulted (unplaced Undefined)
 not_changed = refl

@@ -1,6 +1,7 @@
 -- Each instruction in small codes, run.
 use Rattle.std.proofs.Common.{◌≡◌, List, [], ◌∷◌, ◌++◌, Some, None, refl}
 use lib.Chars.{codes}
+use Rattle.bqn_base.specs.Raised.{unplaced}
 use Rattle.bqn_base.specs.declared.fault.Fault.TheVariants.{Domain, Undefined, NoBody, NotCallable, NothingUsed}
 use Rattle.bqn_base.specs.Plain.{Atop, One, Two, Character, Array, Given, Derived, Function, Modifier1, Modifier2, Namespace, none, more, unfilled, filled}
 use Rattle.bqn_syntax.specs.declared.tree.Class.TheVariants as class
@@ -51,7 +52,7 @@ call_with_one = refl
 call_of_constant : straight (i.Const 5 ∷ i.Const 4 ∷ i.Call1 ∷ i.Return ∷ []) ≡ Done (Some (n 4))
 call_of_constant = refl
 
-call_of_modifier : straight (i.Const 5 ∷ i.Given 44 ∷ i.Call1 ∷ i.Return ∷ []) ≡ Faulted NotCallable
+call_of_modifier : straight (i.Const 5 ∷ i.Given 44 ∷ i.Call1 ∷ i.Return ∷ []) ≡ Faulted (unplaced NotCallable)
 call_of_modifier = refl
 
 -- ---- Nothing
@@ -69,26 +70,26 @@ nothing_left = refl
 nothing_right : straight (i.Nothing ∷ i.Given 44 ∷ i.Const 1 ∷ i.Call2 ∷ i.Return ∷ []) ≡ Done None
 nothing_right = refl
 
-nothing_called : straight (i.Nothing ∷ i.Nothing ∷ i.Call1 ∷ i.Return ∷ []) ≡ Faulted NothingUsed
+nothing_called : straight (i.Nothing ∷ i.Nothing ∷ i.Call1 ∷ i.Return ∷ []) ≡ Faulted (unplaced NothingUsed)
 nothing_called = refl
 
-nothing_derived : straight (i.Const 1 ∷ i.Nothing ∷ i.Derive1 ∷ i.Return ∷ []) ≡ Faulted NothingUsed
+nothing_derived : straight (i.Const 1 ∷ i.Nothing ∷ i.Derive1 ∷ i.Return ∷ []) ≡ Faulted (unplaced NothingUsed)
 nothing_derived = refl
 
-nothing_defined : straight (i.Nothing ∷ i.Define 0 ∷ i.Return ∷ []) ≡ Faulted NothingUsed
+nothing_defined : straight (i.Nothing ∷ i.Define 0 ∷ i.Return ∷ []) ≡ Faulted (unplaced NothingUsed)
 nothing_defined = refl
 
 -- before the variable is looked for
-nothing_changed : straight (i.Nothing ∷ i.Change 0 0 ∷ i.Return ∷ []) ≡ Faulted NothingUsed
+nothing_changed : straight (i.Nothing ∷ i.Change 0 0 ∷ i.Return ∷ []) ≡ Faulted (unplaced NothingUsed)
 nothing_changed = refl
 
-nothing_listed : straight (i.Const 1 ∷ i.Nothing ∷ i.List 2 ∷ i.Return ∷ []) ≡ Faulted NothingUsed
+nothing_listed : straight (i.Const 1 ∷ i.Nothing ∷ i.List 2 ∷ i.Return ∷ []) ≡ Faulted (unplaced NothingUsed)
 nothing_listed = refl
 
-nothing_field : straight (i.Nothing ∷ i.Field 0 ∷ i.Return ∷ []) ≡ Faulted NothingUsed
+nothing_field : straight (i.Nothing ∷ i.Field 0 ∷ i.Return ∷ []) ≡ Faulted (unplaced NothingUsed)
 nothing_field = refl
 
-nothing_answered : with_block class.Immediate (body 0 (i.Nothing ∷ i.Return ∷ []) ∷ []) (i.Run 1 ∷ i.Return ∷ []) ≡ Faulted NothingUsed
+nothing_answered : with_block class.Immediate (body 0 (i.Nothing ∷ i.Return ∷ []) ∷ []) (i.Run 1 ∷ i.Return ∷ []) ≡ Faulted (unplaced NothingUsed)
 nothing_answered = refl
 
 -- ---- variables
@@ -100,10 +101,10 @@ defined = refl
 kept_on_the_stack : straight (i.Const 4 ∷ i.Define 1 ∷ i.Return ∷ []) ≡ Done (Some (n 4))
 kept_on_the_stack = refl
 
-undefined : straight (i.Load 0 0 ∷ i.Return ∷ []) ≡ Faulted Undefined
+undefined : straight (i.Load 0 0 ∷ i.Return ∷ []) ≡ Faulted (unplaced Undefined)
 undefined = refl
 
-undefined_changed : straight (i.Const 1 ∷ i.Change 0 0 ∷ i.Return ∷ []) ≡ Faulted Undefined
+undefined_changed : straight (i.Const 1 ∷ i.Change 0 0 ∷ i.Return ∷ []) ≡ Faulted (unplaced Undefined)
 undefined_changed = refl
 
 -- `a←1⋄{a↩3}⋄a`: a body changes what the body around it defines
@@ -129,7 +130,7 @@ train_of_three = refl
 train_without_left : straight (i.Given 1 ∷ i.Given 2 ∷ i.Nothing ∷ i.Train3 ∷ i.Return ∷ []) ≡ Done (Some (Derived Atop (more (Given 2) (more (Given 1) none))))
 train_without_left = refl
 
-train_without_middle : straight (i.Given 1 ∷ i.Nothing ∷ i.Given 2 ∷ i.Train3 ∷ i.Return ∷ []) ≡ Faulted NothingUsed
+train_without_middle : straight (i.Given 1 ∷ i.Nothing ∷ i.Given 2 ∷ i.Train3 ∷ i.Return ∷ []) ≡ Faulted (unplaced NothingUsed)
 train_without_middle = refl
 
 derived_by_one : straight (i.Given 45 ∷ i.Given 1 ∷ i.Derive1 ∷ i.Return ∷ []) ≡ Done (Some (Derived (One 45) (more (Given 1) none)))
@@ -139,10 +140,10 @@ derived_by_one = refl
 derived_by_two : straight (i.Given 0 ∷ i.Given 53 ∷ i.Given 1 ∷ i.Derive2 ∷ i.Return ∷ []) ≡ Done (Some (Derived (Two 53) (more (Given 1) (more (Given 0) none))))
 derived_by_two = refl
 
-derived_by_function : straight (i.Given 0 ∷ i.Given 1 ∷ i.Derive1 ∷ i.Return ∷ []) ≡ Faulted NotCallable
+derived_by_function : straight (i.Given 0 ∷ i.Given 1 ∷ i.Derive1 ∷ i.Return ∷ []) ≡ Faulted (unplaced NotCallable)
 derived_by_function = refl
 
-derived_by_other_kind : straight (i.Given 53 ∷ i.Given 1 ∷ i.Derive1 ∷ i.Return ∷ []) ≡ Faulted NotCallable
+derived_by_other_kind : straight (i.Given 53 ∷ i.Given 1 ∷ i.Derive1 ∷ i.Return ∷ []) ≡ Faulted (unplaced NotCallable)
 derived_by_other_kind = refl
 
 -- ---- blocks
@@ -172,7 +173,7 @@ both_arguments = body 0 (i.Left ∷ i.Right ∷ i.List 2 ∷ i.Return ∷ []) �
 with_left : with_block class.Function both_arguments (i.Const 4 ∷ i.Block 1 ∷ i.Const 5 ∷ i.Call2 ∷ i.Return ∷ []) ≡ Done (Some (Array (2 ∷ []) (more (n 5) (more (n 4) none)) unfilled))
 with_left = refl
 
-without_left : with_block class.Function both_arguments (i.Const 4 ∷ i.Block 1 ∷ i.Call1 ∷ i.Return ∷ []) ≡ Faulted NothingUsed
+without_left : with_block class.Function both_arguments (i.Const 4 ∷ i.Block 1 ∷ i.Call1 ∷ i.Return ∷ []) ≡ Faulted (unplaced NothingUsed)
 without_left = refl
 
 -- bodies for the two kinds of call
@@ -187,7 +188,7 @@ for_calls_with : runs 2 (code [] (program 0 (i.Const 4 ∷ i.Block 1 ∷ i.Const
 for_calls_with = refl
 
 -- and where no body is meant, none is taken
-for_no_call : runs 1 (code [] (program 0 (i.Const 4 ∷ i.Block 1 ∷ i.Call1 ∷ i.Return ∷ []) ∷ block class.Function 0 (body_for 2 0 (i.Const 2 ∷ i.Return ∷ []) ∷ []) ∷ [])) ≡ Faulted NoBody
+for_no_call : runs 1 (code [] (program 0 (i.Const 4 ∷ i.Block 1 ∷ i.Call1 ∷ i.Return ∷ []) ∷ block class.Function 0 (body_for 2 0 (i.Const 2 ∷ i.Return ∷ []) ∷ []) ∷ [])) ≡ Faulted (unplaced NoBody)
 for_no_call = refl
 
 own_value : with_block class.Function (body 0 (i.Own ∷ i.Return ∷ []) ∷ []) (i.Const 4 ∷ i.Block 1 ∷ i.Call1 ∷ i.Return ∷ []) ≡ Done (Some (Function 1 0 none))
@@ -218,7 +219,7 @@ own_modifier = refl
 own_modifier_of_two : with_block class.Mod2 (body 0 (i.Modifier ∷ i.Return ∷ []) ∷ []) (i.Given 1 ∷ i.Block 1 ∷ i.Given 0 ∷ i.Derive2 ∷ i.Return ∷ []) ≡ Done (Some (Modifier2 1 0))
 own_modifier_of_two = refl
 
-other_modifier : with_block class.Mod2 deferred (i.Block 1 ∷ i.Given 1 ∷ i.Derive1 ∷ i.Return ∷ []) ≡ Faulted NotCallable
+other_modifier : with_block class.Mod2 deferred (i.Block 1 ∷ i.Given 1 ∷ i.Derive1 ∷ i.Return ∷ []) ≡ Faulted (unplaced NotCallable)
 other_modifier = refl
 
 -- ---- predicates
@@ -232,13 +233,13 @@ check_of_one = refl
 check_of_zero : checked (i.Const 0 ∷ []) ≡ Done (Some (n 5))
 check_of_zero = refl
 
-check_of_two : checked (i.Const 2 ∷ []) ≡ Faulted Domain
+check_of_two : checked (i.Const 2 ∷ []) ≡ Faulted (unplaced Domain)
 check_of_two = refl
 
-check_of_character : checked (i.Const 6 ∷ []) ≡ Faulted Domain
+check_of_character : checked (i.Const 6 ∷ []) ≡ Faulted (unplaced Domain)
 check_of_character = refl
 
-check_of_nothing : checked (i.Nothing ∷ []) ≡ Faulted NothingUsed
+check_of_nothing : checked (i.Nothing ∷ []) ≡ Faulted (unplaced NothingUsed)
 check_of_nothing = refl
 
 -- ---- ends

@@ -4,17 +4,19 @@ use Rattle.std.specs.List.{list_all}
 use Rattle.std.proofs.lemmas.Bool.{leb-true, eqb-true}
 use Rattle.bqn_base.specs.declared.fault.Fault.{Fault}
 use Rattle.bqn_base.specs.Plain.{Value, Number, Character, Array, Given, Derived, Function, Modifier1, Modifier2, Namespace, Values, none, more, count, is_given}
+use Rattle.bqn_base.specs.declared.place.Place.{Place}
+use Rattle.bqn_base.specs.Raised.{Raised, Answer, unplaced, nowhere, placed}
 use Rattle.bqn_base.specs.Relations.{both}
 use Rattle.bqn_base.specs.Calls.{Arguments, Call, End, Enter, Turn, Write, Inside, call}
 use Rattle.bqn_base.specs.Running.{Res, Gives, Ends, then_do, run}
 use Rattle.bqn_base.specs.declared.fault.Fault.TheVariants.{Undefined, TooDeep}
 use Rattle.bqn_syntax.specs.declared.tree.Class.{Class}
 use Rattle.bqn_syntax.specs.declared.tree.Class.TheVariants as class
-use Rattle.bqn_syntax.specs.Actions.{go_on, ◌>>=◌, pure, known, found, used, where_so}
+use Rattle.bqn_syntax.specs.Actions.{at, go_on, ◌>>=◌, pure, known, found, used, where_so}
 use Rattle.bqn_syntax.specs.Frames.{left_of, right_of, left_operand, right_operand, modifier_of}
 use Rattle.bqn_syntax.specs.Matching.{Fit, Fits, Mismatch, Missing, and_fit, must_fit, does_fit}
 use Rattle.bqn_syntax.specs.Deriving.{listed, with_one, with_two, modified_one, modified_two, atop, fork, applied}
-use Rattle.bqn_syntax.specs.Meaning.{Ending, NextBody, EndsWith, truth}
+use Rattle.bqn_syntax.specs.Meaning.{Ending, NextBody, EndsWith, truth, tested}
 use Rattle.bqn_code.specs.declared.code.Body.{Body}
 use Rattle.bqn_code.specs.declared.instr.Instr.{Instr}
 use Rattle.bqn_code.specs.declared.instr.Instr.TheVariants as instr
@@ -61,6 +63,14 @@ bind_sure {A = A} {B = B} m go a b s = by (m s) (a s)
     by : (r : Ran A) → Sure r → Sure (then_do r (go_on go))
     by (Gives (Ok x) u) q = b x u
     by (Gives (Err f) u) q = tt
+    by (Ends (Spends u)) q = tt
+    by (Ends (Sticks u)) q = absurd q
+
+at_sure : {A : Type 0} (p : Place) (m : Does A) → AllSure m → AllSure (at p m)
+at_sure {A = A} p m a s = by (m s) (a s)
+  where
+    by : (r : Ran A) → Sure r → Sure (then_do r (λ q. Gives (placed p q)))
+    by (Gives x u) q = tt
     by (Ends (Spends u)) q = tt
     by (Ends (Sticks u)) q = absurd q
 
@@ -208,8 +218,8 @@ module _ (t : Table) (args : Value) (h : Calling) (hs : (c : Call) → AllSure (
   abbrev After : ℕ → Go → Type 0
   After height next = (st : Stack) → length st ≡ height → AllSure (next st)
 
-  pushed_sure : (m : Does (Option Value)) (next : Go) (st : Stack) (height : ℕ) → AllSure m → suc (length st) ≡ height → After height next → AllSure (o.pushed m next st)
-  pushed_sure m next st height a q k = bind_sure m _ a (λ x. k (x ∷ st) q)
+  pushed_sure : (p : Place) (m : Does (Option Value)) (next : Go) (st : Stack) (height : ℕ) → AllSure m → suc (length st) ≡ height → After height next → AllSure (o.pushed p m next st)
+  pushed_sure p m next st height a q k = bind_sure (at p m) _ (at_sure p m a) (λ x. k (x ∷ st) q)
 
   given_sure : (code : ℕ) → IsTrue (nat_lt code 70) → AllSure (o.given_value args code)
   given_sure code there = by (is_given code) refl (nat_eq code 69) refl
@@ -219,54 +229,59 @@ module _ (t : Table) (args : Value) (h : Calling) (hs : (c : Call) → AllSure (
       by false q true r = λ s. tt
       by false q false r = absurd (grind arith)
 
-  act_sure : (i : Instr) (next : Go) (st : Stack) → IsTrue (has_object t f.here i) → takes i ≤ length st → is_last i ≡ false → After (length st - takes i + gives i) next → AllSure (e.act t args h f i next st)
-  act_sure (instr.Const k) next st there q l a = pushed_sure (value (o.constant (slice_get f.here.code.constants k))) next st _ (value_sure _ (constant_sure (slice_get f.here.code.constants k) there)) (omega arith) a
-  act_sure (instr.Given code) next st there q l a = pushed_sure (value (o.given_value args code)) next st _ (value_sure _ (given_sure code there)) (omega arith) a
-  act_sure instr.Nothing next st there q l a = a (None ∷ st) (omega arith)
-  act_sure (instr.Block zero) next st there q l a = absurd (no there)
-  act_sure (instr.Block (suc b)) next st there q l a = pushed_sure (value (o.block_value h (class_of t (f.here.blocks + suc b)) (f.here.blocks + suc b) f.environment)) next st _ (value_sure _ (block_value_sure (class_of t (f.here.blocks + suc b)) _ _ there)) (omega arith) a
-  act_sure (instr.Run zero) next st there q l a = absurd (no there)
-  act_sure (instr.Run (suc b)) next st there q l a = pushed_sure (value (o.block_answer h (class_of t (f.here.blocks + suc b)) (f.here.blocks + suc b) f.environment)) next st _ (value_sure _ (block_answer_sure (class_of t (f.here.blocks + suc b)) _ _ there)) (omega arith) a
-  act_sure (instr.Load up slot) next st there q l a = pushed_sure (value (v.load t f up slot)) next st _ (value_sure _ (load_sure t f up slot)) (omega arith) a
-  act_sure (instr.Define slot) next st there q l a = one_sure _ st q (λ x rest m. pushed_sure (e.stays (v.define t f slot) x) next rest _ (stays_sure (v.define t f slot) (λ y s. tt) x) (omega arith) a)
-  act_sure (instr.Change up slot) next st there q l a = one_sure _ st q (λ x rest m. pushed_sure (e.stays (v.change t f up slot) x) next rest _ (stays_sure (v.change t f up slot) (change_sure t f up slot) x) (omega arith) a)
-  act_sure instr.Pop next st there q l a = one_sure (λ x. next) st q (λ x rest m. a rest (omega arith))
-  act_sure (instr.List n) next st there q l a = taken_sure n (Some none) _ st q (λ xs rest m. pushed_sure (value (known (listed xs))) next rest _ (value_sure (known (listed xs)) (known_sure (listed xs))) (omega arith) a)
-  act_sure instr.Call1 next st there q l a = pair_sure _ st q (λ g x rest m. pushed_sure (applied h g None x) next rest _ (applied_sure g None x) (omega arith) a)
-  act_sure instr.Call2 next st there q l a = triple_sure _ st q (λ w g x rest m. pushed_sure (applied h g w x) next rest _ (applied_sure g w x) (omega arith) a)
-  act_sure instr.Derive1 next st there q l a = pair_sure _ st q (λ g k rest m. pushed_sure (modified_one (class_of t) h k g) next rest _ (one_modified k g) (omega arith) a)
-  act_sure instr.Derive2 next st there q l a = triple_sure _ st q (λ g k j rest m. pushed_sure (modified_two (class_of t) h k g j) next rest _ (two_modified k g j) (omega arith) a)
-  act_sure instr.Train2 next st there q l a = pair_sure _ st q (λ g k rest m. pushed_sure (value (known (atop g k))) next rest _ (value_sure (known (atop g k)) (known_sure (atop g k))) (omega arith) a)
-  act_sure instr.Train3 next st there q l a = triple_sure _ st q (λ g k j rest m. pushed_sure (value (known (fork g k j))) next rest _ (value_sure (known (fork g k j)) (known_sure (fork g k j))) (omega arith) a)
-  act_sure (instr.Field k) next st there q l a = one_sure _ st q (λ x rest m. pushed_sure (value (used x >>= v.field t (slice_get f.here.code.names k))) next rest _ (value_sure _ (used_sure x _ (field_sure t f (slice_get f.here.code.names k)))) (omega arith) a)
-  act_sure (instr.Bind k) next st there q l a = pattern_sure (slice_get f.here.code.patterns k) _ there (λ r. one_sure _ st q (λ x rest m. pushed_sure (e.stays (p.bind t f r) x) next rest _ (stays_sure (p.bind t f r) (bind_pattern_sure t f r) x) (omega arith) a))
-  act_sure (instr.Match k) next st there q l a = pattern_sure (slice_get f.here.code.patterns k) _ there (λ r. one_sure _ st q (λ x rest m. used_sure x _ (λ y. bind_sure (p.fit t f r y) _ (fit_sure t f r y) (λ u. where_sure NextBody (next rest) (a rest (omega arith)) (does_fit u)))))
-  act_sure instr.Check next st there q l a = one_sure _ st q (λ x rest m. used_sure x _ (λ y. bind_sure (known (truth y)) _ (known_sure (truth y)) (where_sure NextBody (next rest) (a rest (omega arith)))))
-  act_sure instr.Left next st there q l a = a (left_of f.arguments ∷ st) (omega arith)
-  act_sure instr.Right next st there q l a = pushed_sure (value (found Undefined (right_of f.arguments))) next st _ (value_sure _ (found_sure Undefined (right_of f.arguments))) (omega arith) a
-  act_sure instr.Own next st there q l a = a (_ ∷ st) (omega arith)
-  act_sure instr.LeftOperand next st there q l a = pushed_sure (value (found Undefined (left_operand f.operands))) next st _ (value_sure _ (found_sure Undefined (left_operand f.operands))) (omega arith) a
-  act_sure instr.RightOperand next st there q l a = pushed_sure (value (found Undefined (right_operand f.operands))) next st _ (value_sure _ (found_sure Undefined (right_operand f.operands))) (omega arith) a
-  act_sure instr.Modifier next st there q l a = pushed_sure (value (found Undefined (modifier_of f.class f.block f.outer))) next st _ (value_sure _ (found_sure Undefined (modifier_of f.class f.block f.outer))) (omega arith) a
-  act_sure instr.Return next st there q l a = absurd (no (sym l))
-  act_sure instr.Space next st there q l a = absurd (no (sym l))
+  act_sure : (i : Instr) (pl : Place) (next : Go) (st : Stack) → IsTrue (has_object t f.here i) → takes i ≤ length st → is_last i ≡ false → After (length st - takes i + gives i) next → AllSure (e.act t args h f i pl next st)
+  act_sure (instr.Const k) pl next st there q l a = pushed_sure pl (value (o.constant (slice_get f.here.code.constants k))) next st _ (value_sure _ (constant_sure (slice_get f.here.code.constants k) there)) (omega arith) a
+  act_sure (instr.Given code) pl next st there q l a = pushed_sure pl (value (o.given_value args code)) next st _ (value_sure _ (given_sure code there)) (omega arith) a
+  act_sure instr.Nothing pl next st there q l a = a (None ∷ st) (omega arith)
+  act_sure (instr.Block zero) pl next st there q l a = absurd (no there)
+  act_sure (instr.Block (suc b)) pl next st there q l a = pushed_sure pl (value (o.block_value h (class_of t (f.here.blocks + suc b)) (f.here.blocks + suc b) f.environment)) next st _ (value_sure _ (block_value_sure (class_of t (f.here.blocks + suc b)) _ _ there)) (omega arith) a
+  act_sure (instr.Run zero) pl next st there q l a = absurd (no there)
+  act_sure (instr.Run (suc b)) pl next st there q l a = pushed_sure pl (value (o.block_answer h (class_of t (f.here.blocks + suc b)) (f.here.blocks + suc b) f.environment)) next st _ (value_sure _ (block_answer_sure (class_of t (f.here.blocks + suc b)) _ _ there)) (omega arith) a
+  act_sure (instr.Load up slot) pl next st there q l a = pushed_sure pl (value (v.load t f up slot)) next st _ (value_sure _ (load_sure t f up slot)) (omega arith) a
+  act_sure (instr.Define slot) pl next st there q l a = one_sure _ st q (λ x rest m. pushed_sure pl (e.stays (v.define t f slot) x) next rest _ (stays_sure (v.define t f slot) (λ y s. tt) x) (omega arith) a)
+  act_sure (instr.Change up slot) pl next st there q l a = one_sure _ st q (λ x rest m. pushed_sure pl (e.stays (v.change t f up slot) x) next rest _ (stays_sure (v.change t f up slot) (change_sure t f up slot) x) (omega arith) a)
+  act_sure instr.Pop pl next st there q l a = one_sure (λ x. next) st q (λ x rest m. a rest (omega arith))
+  act_sure (instr.List n) pl next st there q l a = taken_sure n (Some none) _ st q (λ xs rest m. pushed_sure pl (value (known (listed xs))) next rest _ (value_sure (known (listed xs)) (known_sure (listed xs))) (omega arith) a)
+  act_sure instr.Call1 pl next st there q l a = pair_sure _ st q (λ g x rest m. pushed_sure pl (applied h g None x) next rest _ (applied_sure g None x) (omega arith) a)
+  act_sure instr.Call2 pl next st there q l a = triple_sure _ st q (λ w g x rest m. pushed_sure pl (applied h g w x) next rest _ (applied_sure g w x) (omega arith) a)
+  act_sure instr.Derive1 pl next st there q l a = pair_sure _ st q (λ g k rest m. pushed_sure pl (modified_one (class_of t) h k g) next rest _ (one_modified k g) (omega arith) a)
+  act_sure instr.Derive2 pl next st there q l a = triple_sure _ st q (λ g k j rest m. pushed_sure pl (modified_two (class_of t) h k g j) next rest _ (two_modified k g j) (omega arith) a)
+  act_sure instr.Train2 pl next st there q l a = pair_sure _ st q (λ g k rest m. pushed_sure pl (value (known (atop g k))) next rest _ (value_sure (known (atop g k)) (known_sure (atop g k))) (omega arith) a)
+  act_sure instr.Train3 pl next st there q l a = triple_sure _ st q (λ g k j rest m. pushed_sure pl (value (known (fork g k j))) next rest _ (value_sure (known (fork g k j)) (known_sure (fork g k j))) (omega arith) a)
+  act_sure (instr.Field k) pl next st there q l a = one_sure _ st q (λ x rest m. pushed_sure pl (value (used x >>= v.field t (slice_get f.here.code.names k))) next rest _ (value_sure _ (used_sure x _ (field_sure t f (slice_get f.here.code.names k)))) (omega arith) a)
+  act_sure (instr.Bind k) pl next st there q l a = pattern_sure (slice_get f.here.code.patterns k) _ there (λ r. one_sure _ st q (λ x rest m. pushed_sure pl (e.stays (p.bind t f r) x) next rest _ (stays_sure (p.bind t f r) (bind_pattern_sure t f r) x) (omega arith) a))
+  act_sure (instr.Match k) pl next st there q l a = pattern_sure (slice_get f.here.code.patterns k) _ there (λ r. one_sure _ st q (λ x rest m. bind_sure (at pl (used x >>= (λ v. p.fit t f r v >>= (λ u. pure (does_fit u))))) _ (at_sure pl _ (used_sure x _ (λ y. bind_sure (p.fit t f r y) _ (fit_sure t f r y) (λ u s. tt)))) (where_sure NextBody (next rest) (a rest (omega arith)))))
+  act_sure instr.Check pl next st there q l a = one_sure _ st q (λ x rest m. bind_sure (at pl (tested x)) _ (at_sure pl _ (used_sure x _ (λ y. known_sure (truth y)))) (where_sure NextBody (next rest) (a rest (omega arith))))
+  act_sure instr.Left pl next st there q l a = a (left_of f.arguments ∷ st) (omega arith)
+  act_sure instr.Right pl next st there q l a = a (right_of f.arguments ∷ st) (omega arith)
+  act_sure instr.Own pl next st there q l a = a (_ ∷ st) (omega arith)
+  act_sure instr.LeftOperand pl next st there q l a = pushed_sure pl (value (found Undefined (left_operand f.operands))) next st _ (value_sure _ (found_sure Undefined (left_operand f.operands))) (omega arith) a
+  act_sure instr.RightOperand pl next st there q l a = pushed_sure pl (value (found Undefined (right_operand f.operands))) next st _ (value_sure _ (found_sure Undefined (right_operand f.operands))) (omega arith) a
+  act_sure instr.Modifier pl next st there q l a = pushed_sure pl (value (found Undefined (modifier_of f.class f.block f.outer))) next st _ (value_sure _ (found_sure Undefined (modifier_of f.class f.block f.outer))) (omega arith) a
+  act_sure instr.Return pl next st there q l a = absurd (no (sym l))
+  act_sure instr.Space pl next st there q l a = absurd (no (sym l))
 
-  last_sure : (i : Instr) (next : Go) (st : Stack) → is_last i ≡ true → length st ≡ takes i → AllSure (e.act t args h f i next st)
-  last_sure instr.Return next [] l q = absurd (omega arith)
-  last_sure instr.Return next (x ∷ []) l q = λ s. tt
-  last_sure instr.Return next (x ∷ (y ∷ st)) l q = absurd (omega arith)
-  last_sure instr.Space next [] l q = λ s. tt
-  last_sure instr.Space next (x ∷ st) l q = absurd (omega arith)
-  last_sure _ next st l q = absurd (no l)
+  last_sure : (i : Instr) (pl : Place) (next : Go) (st : Stack) → is_last i ≡ true → length st ≡ takes i → AllSure (e.act t args h f i pl next st)
+  last_sure instr.Return pl next [] l q = absurd (omega arith)
+  last_sure instr.Return pl next (x ∷ []) l q = λ s. tt
+  last_sure instr.Return pl next (x ∷ (y ∷ st)) l q = absurd (omega arith)
+  last_sure instr.Space pl next [] l q = λ s. tt
+  last_sure instr.Space pl next (x ∷ st) l q = absurd (omega arith)
+  last_sure _ pl next st l q = absurd (no l)
 
-  exec_sure : (is : List Instr) (st : Stack) → IsTrue (list_all (has_object t f.here) is) → IsTrue (is_balanced (length st) is) → AllSure (e.exec t args h f is st)
-  exec_sure [] st there b = absurd (no b)
-  exec_sure (i ∷ is) st there b = by (is_last i) refl b (λ q rest m. exec_sure is rest (and_right (has_object t f.here i) _ there) (subst (λ k. IsTrue (is_balanced k is)) (sym m) q))
+  one_sure_more : (i : Instr) (pl : Place) (next : Go) (is : List Instr) (st : Stack) → IsTrue (list_all (has_object t f.here) (i ∷ is)) → IsTrue (is_balanced (length st) (i ∷ is)) →
+      ((rest : Stack) → IsTrue (list_all (has_object t f.here) is) → IsTrue (is_balanced (length rest) is) → AllSure (next rest)) → AllSure (e.act t args h f i pl next st)
+  one_sure_more i pl next is st there b on = by (is_last i) refl b (λ q rest m. on rest (and_right (has_object t f.here i) _ there) (subst (λ k. IsTrue (is_balanced k is)) (sym m) q))
     where
       by : (l : Bool) → is_last i ≡ l → IsTrue (elim l [ true ↦ nat_eq (length st) (takes i) && is_empty is | false ↦ nat_le (takes i) (length st) && is_balanced (length st - takes i + gives i) is ]) →
-          (IsTrue (is_balanced (length st - takes i + gives i) is) → After (length st - takes i + gives i) (e.exec t args h f is)) → AllSure (e.act t args h f i (e.exec t args h f is) st)
-      by true l b again = last_sure i (e.exec t args h f is) st l (eqb-true _ _ (and_left (nat_eq (length st) (takes i)) _ b))
-      by false l b again = act_sure i (e.exec t args h f is) st (and_left (has_object t f.here i) _ there) (leb-true _ _ (and_left (nat_le (takes i) (length st)) _ b)) l (again (and_right (nat_le (takes i) (length st)) _ b))
+          (IsTrue (is_balanced (length st - takes i + gives i) is) → After (length st - takes i + gives i) next) → AllSure (e.act t args h f i pl next st)
+      by true l b again = last_sure i pl next st l (eqb-true _ _ (and_left (nat_eq (length st) (takes i)) _ b))
+      by false l b again = act_sure i pl next st (and_left (has_object t f.here i) _ there) (leb-true _ _ (and_left (nat_le (takes i) (length st)) _ b)) l (again (and_right (nat_le (takes i) (length st)) _ b))
+
+  exec_sure : (is : List Instr) (ps : List Place) (st : Stack) → IsTrue (list_all (has_object t f.here) is) → IsTrue (is_balanced (length st) is) → AllSure (e.exec t args h f (e.with_places is ps) st)
+  exec_sure [] ps st there b = absurd (no b)
+  exec_sure (i ∷ is) [] st there b = one_sure_more i nowhere (e.exec t args h f (e.with_places is [])) is st there b (exec_sure is [])
+  exec_sure (i ∷ is) (p ∷ ps) st there b = one_sure_more i p (e.exec t args h f (e.with_places is ps)) is st there b (exec_sure is ps)
 
 -- ---- blocks
 
@@ -282,7 +297,7 @@ within_sure body slots parent next a s = a (length s.environments) _
 
 or_else_sure : (others : Does Value) → AllSure others → (r : Ending) → AllSure (e.or_else others r)
 or_else_sure others a NextBody = a
-or_else_sure others a (EndsWith x) = found_sure _ x
+or_else_sure others a (EndsWith p x) = at_sure p _ (found_sure _ x)
 
 module _ (t : Table) (args : Value) (h : Calling) (hs : (c : Call) → AllSure (h c)) (b : BlockAt) (block outer : ℕ) (operands : Values) (arguments : Arguments) where
   tries_sure : (k : ℕ) (bodies : List Body) → IsTrue (list_all (is_sound t b.here) bodies) → AllSure (e.tries t args h b block outer operands arguments k bodies)
@@ -291,7 +306,7 @@ module _ (t : Table) (args : Value) (h : Calling) (hs : (c : Call) → AllSure (
     where
       by : AllSure (e.tries t args h b block outer operands arguments (suc k) bodies) → IsTrue (is_sound t b.here body) → (meant : Bool) →
           AllSure (elim meant [ true ↦ e.tried t args h b block outer operands arguments (e.tries t args h b block outer operands arguments (suc k) bodies) (body_number b.here k) body | false ↦ e.tries t args h b block outer operands arguments (suc k) bodies ])
-      by others own true = stepped_sure (e.within_new (body_number b.here k) body.slots outer (λ n. e.exec t args h (e.frame t args h b block outer operands arguments (body_number b.here k) n) body.code [] >>= e.or_else (e.tries t args h b block outer operands arguments (suc k) bodies))) (within_sure (body_number b.here k) body.slots outer (λ n. e.exec t args h (e.frame t args h b block outer operands arguments (body_number b.here k) n) body.code [] >>= e.or_else (e.tries t args h b block outer operands arguments (suc k) bodies)) (λ n. bind_sure (e.exec t args h (e.frame t args h b block outer operands arguments (body_number b.here k) n) body.code []) _ (exec_sure t args h hs (e.frame t args h b block outer operands arguments (body_number b.here k) n) body.code [] (and_left (list_all (has_object t b.here) body.code) _ own) (and_right (list_all (has_object t b.here) body.code) _ own)) (or_else_sure (e.tries t args h b block outer operands arguments (suc k) bodies) others)))
+      by others own true = stepped_sure (e.within_new (body_number b.here k) body.slots outer (λ n. e.exec t args h (e.frame t args h b block outer operands arguments (body_number b.here k) n) (e.placed_code body) [] >>= e.or_else (e.tries t args h b block outer operands arguments (suc k) bodies))) (within_sure (body_number b.here k) body.slots outer (λ n. e.exec t args h (e.frame t args h b block outer operands arguments (body_number b.here k) n) (e.placed_code body) [] >>= e.or_else (e.tries t args h b block outer operands arguments (suc k) bodies)) (λ n. bind_sure (e.exec t args h (e.frame t args h b block outer operands arguments (body_number b.here k) n) (e.placed_code body) []) _ (exec_sure t args h hs (e.frame t args h b block outer operands arguments (body_number b.here k) n) body.code body.places [] (and_left (list_all (has_object t b.here) body.code) _ own) (and_right (list_all (has_object t b.here) body.code) _ own)) (or_else_sure (e.tries t args h b block outer operands arguments (suc k) bodies) others)))
       by others own false = others
 
 then_sure : {A B : Type 0} (r : Res Halted State A) (go : A → State → Res Halted State B) → Sure r → ((x : A) (s : State) → Sure (go x s)) → Sure (then_do r go)
@@ -299,7 +314,7 @@ then_sure (Gives x u) go q a = a x u
 then_sure (Ends (Spends u)) go q a = tt
 then_sure (Ends (Sticks u)) go q a = absurd q
 
-run_sure : (t : Table) (args : Value) (enter : (block environment : ℕ) → Values → Arguments → State → Res Halted State (Result Value Fault)) (inner : Calling) →
+run_sure : (t : Table) (args : Value) (enter : (block environment : ℕ) → Values → Arguments → State → Res Halted State Answer) (inner : Calling) →
     ((b n : ℕ) (fs : Values) (xs : Arguments) → AllSure (enter b n fs xs)) → ((c : Call) → AllSure (inner c)) → (c : Call) → AllSure (run (e.replies t args) enter inner c)
 run_sure t args enter inner a i (End r) = λ s. tt
 run_sure t args enter inner a i (Enter b n fs xs go) = λ s. then_sure (enter b n fs xs s) _ (a b n fs xs s) (λ r u. run_sure t args enter inner a i (go r) u)
@@ -316,12 +331,12 @@ entered_sure t args sound h hs b n fs xs = by (slice_get t.blocks b) refl
 
 -- where each instruction finds its operands and its objects, no call is stuck
 pub runs_sure : (t : Table) (args : Value) → SoundTable t → (room : ℕ) (c : Call) → AllSure (e.runs t args room c)
-runs_sure t args sound zero c = run_sure t args (λ b n fs xs s. Gives (Err TooDeep) s) (λ c s. Gives (Err TooDeep) s) (λ b n fs xs s. tt) (λ c s. tt) c
+runs_sure t args sound zero c = run_sure t args (λ b n fs xs s. Gives (Err (unplaced TooDeep)) s) (λ c s. Gives (Err (unplaced TooDeep)) s) (λ b n fs xs s. tt) (λ c s. tt) c
 runs_sure t args sound (suc room) c = run_sure t args (λ b. e.entered t args (e.runs t args room) (slice_get t.blocks b) b) (e.runs t args room) (entered_sure t args sound (e.runs t args room) (runs_sure t args sound room)) (runs_sure t args sound room) c
 
 top_sure : (r : Ending) → AllSure (top_answer r)
 top_sure NextBody = λ s. tt
-top_sure (EndsWith x) = λ s. tt
+top_sure (EndsWith p x) = λ s. tt
 
 -- and no program is stuck
 pub programs_sure : (t : Table) (args : Value) (room : ℕ) → SoundTable t → AllSure (run_all t args room)
@@ -329,4 +344,4 @@ programs_sure t args room sound = by (slice_get t.bodies 0) refl
   where
     by : (o : Option BodyAt) → slice_get t.bodies 0 ≡ o → AllSure (run_top t args room o)
     by None q = absurd (no (subst (λ o. IsTrue (is_some o)) q sound.top))
-    by (Some b) q = λ s. stepped_sure _ (bind_sure (e.exec t args (e.runs t args room) (top_frame b) b.body.code []) _ (exec_sure t args (e.runs t args room) (runs_sure t args sound room) (top_frame b) b.body.code [] (and_left (list_all (has_object t b.here) b.body.code) _ (all_at (λ x. is_sound t x.here x.body) t.bodies 0 b sound.bodies q)) (and_right (list_all (has_object t b.here) b.body.code) _ (all_at (λ x. is_sound t x.here x.body) t.bodies 0 b sound.bodies q))) top_sure) (begun b.body.slots s)
+    by (Some b) q = λ s. stepped_sure _ (bind_sure (e.exec t args (e.runs t args room) (top_frame b) (e.placed_code b.body) []) _ (exec_sure t args (e.runs t args room) (runs_sure t args sound room) (top_frame b) b.body.code b.body.places [] (and_left (list_all (has_object t b.here) b.body.code) _ (all_at (λ x. is_sound t x.here x.body) t.bodies 0 b sound.bodies q)) (and_right (list_all (has_object t b.here) b.body.code) _ (all_at (λ x. is_sound t x.here x.body) t.bodies 0 b sound.bodies q))) top_sure) (begun t s)

@@ -16,7 +16,7 @@ use Rattle.bqn_code.proofs.SmallCodes.{body, body_for, exporting, block, program
 
 -- `2+3`
 abbrev sum : Code
-sum = record { names = []; constants = const.Number (pos 2) ∷ const.Number (pos 3) ∷ []; patterns = []; blocks = program 0 (i.Const 1 ∷ i.Given 0 ∷ i.Const 0 ∷ i.Call2 ∷ i.Return ∷ []) ∷ [] }
+sum = record { placed = false; names = []; constants = const.Number (pos 2) ∷ const.Number (pos 3) ∷ []; patterns = []; blocks = program 0 (i.Const 1 ∷ i.Given 0 ∷ i.Const 0 ∷ i.Call2 ∷ i.Return ∷ []) ∷ [] }
 
 sum_is_verified : Verified sum
 sum_is_verified = record {
@@ -173,10 +173,10 @@ pattern_missing = refl
 given_missing : is.given_values_are_there (straight [] (i.Given 70 ∷ i.Return ∷ [])) ≡ false
 given_missing = refl
 
-name_of_digits : is.names_begin_with_letters (record { names = codes "a1" ∷ codes "1a" ∷ []; constants = []; patterns = []; blocks = [] }) ≡ false
+name_of_digits : is.names_begin_with_letters (record { placed = false; names = codes "a1" ∷ codes "1a" ∷ []; constants = []; patterns = []; blocks = [] }) ≡ false
 name_of_digits = refl
 
-empty_name : is.names_begin_with_letters (record { names = [] ∷ []; constants = []; patterns = []; blocks = [] }) ≡ false
+empty_name : is.names_begin_with_letters (record { placed = false; names = [] ∷ []; constants = []; patterns = []; blocks = [] }) ≡ false
 empty_name = refl
 
 -- ---- variables
@@ -239,7 +239,7 @@ exported_twice : is.exports_are_distinct (exporter ((0, 0) ∷ (0, 1) ∷ [])) �
 exported_twice = refl
 
 -- one name under two numbers
-spelled_twice : is.exports_are_distinct (record { names = codes "a" ∷ codes "a" ∷ []; constants = []; patterns = []; blocks = block class.Immediate 0 (exporting ((0, 0) ∷ (1, 1) ∷ []) 2 (i.Space ∷ []) ∷ []) ∷ [] }) ≡ false
+spelled_twice : is.exports_are_distinct (record { placed = false; names = codes "a" ∷ codes "a" ∷ []; constants = []; patterns = []; blocks = block class.Immediate 0 (exporting ((0, 0) ∷ (1, 1) ∷ []) 2 (i.Space ∷ []) ∷ []) ∷ [] }) ≡ false
 spelled_twice = refl
 
 -- ---- counts
@@ -249,7 +249,7 @@ doubled zero cs = cs
 doubled (suc k) cs = doubled k (cs ++ cs)
 
 abbrev with_constants : List Const → Code
-with_constants cs = record { names = []; constants = cs; patterns = []; blocks = [] }
+with_constants cs = record { placed = false; names = []; constants = cs; patterns = []; blocks = [] }
 
 -- 2^15 constants, and 2^16
 few_constants : is.constants_are_few (with_constants (doubled 15 (const.Char 97 ∷ []))) ≡ true

@@ -1,10 +1,11 @@
 -- The stack, and what instructions take from it and push: this project's own.
 use Rattle.std.specs.Prelude.{ℕ, zero, suc, nat_eq, true, false, List, [], ◌∷◌, Option, Some, None}
+use Rattle.bqn_base.specs.declared.place.Place.{Place}
 use Rattle.bqn_base.specs.Plain.{Value, Given, Namespace, Values, is_given}
 use Rattle.bqn_base.specs.Relations.{both}
 use Rattle.bqn_syntax.specs.declared.tree.Class.{Class}
 use Rattle.bqn_syntax.specs.declared.tree.Class.TheVariants as class
-use Rattle.bqn_syntax.specs.Actions.{◌>>=◌, pure, known}
+use Rattle.bqn_syntax.specs.Actions.{at, ◌>>=◌, pure, known}
 use Rattle.bqn_syntax.specs.Frames.{given}
 use Rattle.bqn_syntax.specs.Deriving.{standing}
 use Rattle.bqn_syntax.specs.Meaning.{Ending, EndsWith}
@@ -40,8 +41,9 @@ taken (suc n) xs go (x ∷ st) = taken n (both x xs) go st
 
 -- ---- pushing
 
-abbrev pub pushed : Does (Option Value) → Go → Go
-pushed m next st = m >>= (λ v. next (v ∷ st))
+-- what an instruction at this place makes is pushed
+abbrev pub pushed : Place → Does (Option Value) → Go → Go
+pushed p m next st = at p m >>= (λ v. next (v ∷ st))
 
 abbrev pub value : Does Value → Does (Option Value)
 value m = m >>= given
@@ -68,12 +70,12 @@ block_answer h _ b e = stuck
 -- ---- ends
 
 -- the one value that is left
-abbrev pub returned : Go
-returned [] = stuck
-returned (x ∷ []) = pure (EndsWith x)
-returned (x ∷ y ∷ st) = stuck
+abbrev pub returned : Place → Go
+returned p [] = stuck
+returned p (x ∷ []) = pure (EndsWith p x)
+returned p (x ∷ y ∷ st) = stuck
 
 -- nothing is left
-abbrev pub left_space : (environment : ℕ) → Go
-left_space n [] = pure (EndsWith (Some (Namespace n)))
-left_space n (x ∷ st) = stuck
+abbrev pub left_space : Place → (environment : ℕ) → Go
+left_space p n [] = pure (EndsWith p (Some (Namespace n)))
+left_space p n (x ∷ st) = stuck

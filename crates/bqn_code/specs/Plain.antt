@@ -1,5 +1,5 @@
 -- Code as plain lists, and what a code of the program is as such data: the same, level by level.
-use Rattle.std.specs.Prelude.{ℕ, List, [], ◌∷◌, map}
+use Rattle.std.specs.Prelude.{ℕ, Bool, List, [], ◌∷◌, map}
 use Rattle.bqn_code.specs.declared.constant.Const.{Const}
 use Rattle.bqn_code.specs.declared.pattern.PatternCode.{PatternCode, PatternCode-F, fold-PatternCode}
 use Rattle.bqn_code.specs.declared.code.Block.{Block}
@@ -22,8 +22,9 @@ abbrev pub patterns : List Pattern → Patterns
 patterns [] = no_patterns
 patterns (p ∷ ps) = and_patterns p (patterns ps)
 
--- the spellings of the names, the constants, the patterns and the blocks, by their numbers
+-- whether instructions have places; the spellings of the names, the constants, the patterns and the blocks, by their numbers
 pub record Code : Type 0 where
+  pub placed : Bool
   pub names : List (List ℕ)
   pub constants : List Const
   pub patterns : List Pattern
@@ -40,4 +41,4 @@ abbrev pub pattern_of : PatternCode → Pattern
 pattern_of = fold-PatternCode Pattern at_pattern
 
 abbrev pub code_of : CodeCode → Code
-code_of code = record { names = code.names; constants = code.constants; patterns = map pattern_of code.patterns; blocks = code.blocks }
+code_of code = record { placed = code.placed; names = code.names; constants = code.constants; patterns = map pattern_of code.patterns; blocks = code.blocks }

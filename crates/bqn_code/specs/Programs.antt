@@ -1,6 +1,7 @@
 -- What running a code gives, and a further code over the variables of those before it: this project's own.
-use Rattle.std.specs.Prelude.{ℕ, ◌-◌, List, [], ◌∷◌, ◌++◌, length, replicate, slice_get, Option, Some, None, Result, Ok, Err}
+use Rattle.std.specs.Prelude.{ℕ, ◌-◌, List, [], ◌∷◌, ◌++◌, length, map, replicate, slice_get, Option, Some, None, Result, Ok, Err}
 use Rattle.bqn_base.specs.declared.fault.Fault.{Fault}
+use Rattle.bqn_base.specs.Raised.{Raised}
 use Rattle.bqn_base.specs.declared.fault.Fault.TheVariants.{NoBody}
 use Rattle.bqn_base.specs.Plain.{Value, Array, none, unfilled}
 use Rattle.bqn_base.specs.Calls.{no_arguments}
@@ -13,7 +14,7 @@ use Rattle.bqn_code.specs.Plain.{Code}
 use Rattle.bqn_code.specs.States.{Environment, State, Spends, Sticks, Ran, Does, stuck, stepped}
 use Rattle.bqn_code.specs.Numbering.{BodyAt, Table, table_of}
 use Rattle.bqn_code.specs.Variables.{Frame}
-use Rattle.bqn_code.specs.Execution.{exec, runs}
+use Rattle.bqn_code.specs.Execution.{exec, placed_code, runs}
 
 -- what is kept between codes: the environments, all codes so far in their order, and the steps that are left
 pub record Kept : Type 0 where
@@ -27,13 +28,16 @@ fresh steps = record { environments = record { body = 0; parent = 0; variables =
 
 -- ---- running
 
--- the first environment is that of the top bodies; further variables have no value yet
-abbrev pub widened : (slots : ℕ) → List Environment → List Environment
-widened slots [] = []
-widened slots (e ∷ es) = record e { variables = e.variables ++ replicate (slots - length e.variables) None } ∷ es
+abbrev pub slots_in : Option BodyAt → ℕ
+slots_in None = 0
+slots_in (Some b) = b.body.slots
 
-abbrev pub begun : (slots : ℕ) → State → State
-begun slots s = record s { environments = widened slots s.environments }
+-- an environment has all variables of its body; further ones, as a top body may have, have no value yet
+abbrev pub widened : Table → Environment → Environment
+widened t e = record e { variables = e.variables ++ replicate (slots_in (slice_get t.bodies e.body) - length e.variables) None }
+
+abbrev pub begun : Table → State → State
+begun t s = record s { environments = map (widened t) s.environments }
 
 abbrev pub top_frame : BodyAt → Frame
 top_frame b = record { here = b.here; block = 0; class = class.Immediate; body = 0; environment = 0; outer = 0; operands = none; arguments = no_arguments }
@@ -41,12 +45,12 @@ top_frame b = record { here = b.here; block = 0; class = class.Immediate; body =
 -- the answer of the program may be Nothing
 abbrev pub top_answer : Ending → Does (Option Value)
 top_answer NextBody = fault NoBody
-top_answer (EndsWith x) = pure x
+top_answer (EndsWith p x) = pure x
 
 -- the top body is run, which takes a step
 abbrev pub run_top : Table → (args : Value) → (room : ℕ) → Option BodyAt → Does (Option Value)
 run_top t args room None = stuck
-run_top t args room (Some b) = λ s. stepped (exec t args (runs t args room) (top_frame b) b.body.code [] >>= top_answer) (begun b.body.slots s)
+run_top t args room (Some b) = λ s. stepped (exec t args (runs t args room) (top_frame b) (placed_code b.body) [] >>= top_answer) (begun t s)
 
 abbrev pub run_all : Table → (args : Value) → (room : ℕ) → Does (Option Value)
 run_all t args room = run_top t args room (slice_get t.bodies 0)
@@ -83,7 +87,7 @@ exec_program code words steps = exec_on (args_value words) code steps
 pub data Outcome : Type 0 where
   -- the answer, or Nothing
   Done : Option Value → Outcome
-  Faulted : Fault → Outcome
+  Faulted : Raised → Outcome
   -- one more step is needed than is left
   Spent : Outcome
   -- an operand or an object is missing

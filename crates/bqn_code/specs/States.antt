@@ -1,7 +1,7 @@
 -- The state of a run of code, and how a run ends early: this project's own.
 use Rattle.std.specs.Prelude.{ℕ, zero, suc, List, ◌++◌, Option, Result, encode_utf8_all}
-use Rattle.bqn_base.specs.declared.fault.Fault.{Fault}
 use Rattle.bqn_base.specs.Plain.{Value}
+use Rattle.bqn_base.specs.Raised.{Raised}
 use Rattle.bqn_base.specs.Running.{Res, Ends, Runs}
 use Rattle.bqn_syntax.specs.Actions.{Action}
 
@@ -30,7 +30,7 @@ Does A = Action Halted State A
 
 -- what running gives
 abbrev pub Ran : Type 0 → Type 0
-Ran A = Res Halted State (Result A Fault)
+Ran A = Res Halted State (Result A Raised)
 
 -- how calls run
 abbrev pub Calling : Type 0

@@ -1,7 +1,7 @@
 use crate::constant::Const;
 use crate::instr::Instr;
 use crate::pattern::PatternCode;
-use bqn_base::{Name, Row};
+use bqn_base::{Name, Place, Row};
 use bqn_syntax::Class;
 
 /// A body of a block.
@@ -16,6 +16,8 @@ pub struct Body {
     pub exports: Row<(u32, u16)>,
     /// What it does.
     pub code: Row<Instr>,
+    /// The place of each instruction, where the code has places, and else none.
+    pub places: Row<Place>,
 }
 
 /// A block: its bodies are tried in order.
@@ -31,6 +33,8 @@ pub struct Block {
 /// A whole program. Block 0 is what is run.
 #[derive(Drop)]
 pub struct Code {
+    /// Whether its instructions have places.
+    pub placed: bool,
     /// The names of fields.
     pub names: Row<Name>,
     pub constants: Row<Const>,

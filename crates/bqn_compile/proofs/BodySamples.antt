@@ -6,7 +6,7 @@ use Rattle.bqn_code.specs.declared.constant.Const.TheVariants as const
 use Rattle.bqn_code.specs.declared.instr.Instr.{Instr}
 use Rattle.bqn_code.specs.declared.instr.Instr.TheVariants as i
 use Rattle.bqn_code.specs.Plain.{Skip, Define, ListPattern, Literal, patterns}
-use Rattle.bqn_compile.proofs.Sources.{with_tree, tree_code, code_of, inner_blocks, body, exporting, block, program, nums, code}
+use Rattle.bqn_compile.proofs.Sources.{bare_result, with_tree, tree_code, code_of, inner_blocks, body, exporting, block, program, nums, code}
 
 abbrev return : List Instr
 return = i.Return ∷ []
@@ -85,7 +85,7 @@ modifier_headers = refl
 -- ---- a line of a session
 
 -- a name that is known keeps its slot
-line : with_tree (tree_code (codes "a" ∷ codes "q" ∷ [])) (codes "b←a⋄a⇐3⋄{q}") ≡
+line : bare_result (with_tree (tree_code (codes "a" ∷ codes "q" ∷ [])) (codes "b←a⋄a⇐3⋄{q}")) ≡
     code (codes "a" ∷ []) (nums (3 ∷ [])) []
     (program (exporting ((0, 0) ∷ []) 3 (i.Load 0 0 ∷ i.Define 2 ∷ i.Pop ∷ i.Const 0 ∷ i.Define 0 ∷ i.Pop ∷ i.Run 1 ∷ i.Pop ∷ i.Space ∷ []))
     ∷ block class.Immediate 0 (body 0 0 (i.Load 1 1 ∷ return) ∷ []) ∷ [])

@@ -13,6 +13,8 @@ pub mod Loops
 pub mod Reading
 pub mod Unstarted
 pub mod Sources
+pub mod Placings
 mod Samples
 mod BodySamples
 mod RunSamples
+mod PlaceSamples

@@ -1,5 +1,5 @@
 -- From source texts to code: what samples are made of.
-use Rattle.std.proofs.Common.{ℕ, pos, List, [], ◌∷◌, map, Result, Ok, Err}
+use Rattle.std.proofs.Common.{ℕ, false, pos, List, [], ◌∷◌, map, Result, Ok, Err}
 use Rattle.bqn_base.specs.declared.refusal.Refusal.{Refusal}
 use Rattle.bqn_syntax.specs.declared.tree.Class.{Class}
 use Rattle.bqn_syntax.specs.declared.tree.Class.TheVariants as class
@@ -26,13 +26,24 @@ resolved_code translate names tree = elim (resolution names tree) [ Err r ↦ Er
 abbrev pub tree_code : List (List ℕ) → Stmts → Result Code Refusal
 tree_code = resolved_code translated
 
--- the code of a text
+-- a code without its places
+abbrev bare_body : Body → Body
+bare_body b = record b { places = [] }
+
+abbrev bare_block : Block → Block
+bare_block b = record b { bodies = map bare_body b.bodies }
+
+abbrev pub bare_result : Result Code Refusal → Result Code Refusal
+bare_result (Err r) = Err r
+bare_result (Ok code) = Ok (record code { placed = false; blocks = map bare_block code.blocks })
+
+-- the code of a text, without its places
 abbrev pub code_of : List ℕ → Result Code Refusal
-code_of = with_tree (tree_code [])
+code_of text = bare_result (with_tree (tree_code []) text)
 
 -- where there may be so many, behind the names of a session
 abbrev pub code_within : Most → List (List ℕ) → List ℕ → Result Code Refusal
-code_within m names = with_tree (resolved_code (translated_within m) names)
+code_within m names text = bare_result (with_tree (resolved_code (translated_within m) names) text)
 
 -- ---- what is looked at
 
@@ -55,10 +66,10 @@ inner_blocks text = blocks_in (code_of text)
 
 -- a body for these calls, without exports
 abbrev pub body : (kind slots : ℕ) → List Instr → Body
-body kind slots is = record { kind = kind; slots = slots; exports = []; code = is }
+body kind slots is = record { kind = kind; slots = slots; exports = []; code = is; places = [] }
 
 abbrev pub exporting : List (ℕ × ℕ) → (slots : ℕ) → List Instr → Body
-exporting exports slots is = record { kind = 0; slots = slots; exports = exports; code = is }
+exporting exports slots is = record { kind = 0; slots = slots; exports = exports; code = is; places = [] }
 
 abbrev pub block : Class → (parent : ℕ) → List Body → Block
 block c parent bodies = record { class = c; parent = parent; bodies = bodies }
@@ -71,4 +82,4 @@ nums [] = []
 nums (k ∷ ks) = const.Number (pos k) ∷ nums ks
 
 abbrev pub code : List (List ℕ) → List Const → List Pattern → List Block → Result Code Refusal
-code names constants patterns blocks = Ok (record { names = names; constants = constants; patterns = patterns; blocks = blocks })
+code names constants patterns blocks = Ok (record { placed = false; names = names; constants = constants; patterns = patterns; blocks = blocks })

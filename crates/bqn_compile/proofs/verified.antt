@@ -48,3 +48,5 @@ pub mod PoolTests
 pub mod PoolExports
 pub mod PoolLaws
 pub mod TranslatedCode
+pub mod PlacedCodes
+pub mod Placing

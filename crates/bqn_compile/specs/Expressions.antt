@@ -1,5 +1,7 @@
--- The code of expressions, in the order of evaluation.
+-- The code of expressions, in the order of evaluation: each instruction with the lead of the piece that it is for. It is written down
+-- once, for whatever is made of an instruction and a lead: the instruction alone, its place, or both.
 use Rattle.std.specs.Prelude.{ℕ, suc, ◌+◌, List, [], ◌∷◌, ◌++◌, map, position, Option, Some, None}
+use Rattle.bqn_base.specs.declared.place.Place.{Place}
 use Rattle.bqn_syntax.specs.declared.token.Kind.{Kind}
 use Rattle.bqn_syntax.specs.declared.token.Kind.TheVariants as kind
 use Rattle.bqn_syntax.specs.declared.token.Special.{Special}
@@ -10,6 +12,7 @@ use Rattle.bqn_syntax.specs.declared.tree.Arrow.TheVariants as arrow
 use Rattle.bqn_syntax.specs.declared.tree.Class.{Class}
 use Rattle.bqn_syntax.specs.declared.tree.Class.TheVariants as class
 use Rattle.bqn_syntax.specs.Plain.{Pattern, Name, Expr, Value, Train, Modifier, Use, One, Two, Part, Leaf, Elements, Merge, Paren, Block, Field, Strand, Nothing, Step, Apply, Assign, Modify, block, Derived, derived, none, some, Exprs, no_exprs, and_exprs, Uses, no_uses, and_uses, Parts, no_parts, and_parts, Steps, no_steps, and_steps, Deriveds, no_deriveds, and_deriveds}
+use Rattle.bqn_syntax.specs.Leads.{or_else, pattern_lead, part_lead, derived_lead, deriveds_lead, exprs_lead, parts_lead, modifier_lead}
 use Rattle.bqn_syntax.specs.Scope as scope
 use Rattle.bqn_syntax.specs.Scope.{Seen, name_of, same_name, system_names}
 use Rattle.bqn_code.specs.declared.constant.Const.{Const}
@@ -67,20 +70,12 @@ abbrev pub block_instr : Class → ℕ → Instr
 block_instr class.Immediate b = i.Run b
 block_instr c b = i.Block b
 
-abbrev pub fields_code : List (List ℕ) → List Token → List Instr
-fields_code names ts = map (λ t. i.Field (name_number names (name_of t))) ts
-
 -- ---- targets
 
 -- a name alone is stored into; anything else is a pattern with this number
 abbrev pub target_instr : Setting → Count → Pattern → Arrow → Instr
 target_instr g c (Name t) a = store a (seen_at g.uses c.uses)
 target_instr g c q a = i.Bind c.patterns
-
--- the rightmost target is stored first
-abbrev pub targets_code : Setting → Count → List (Token × Arrow) → List Instr
-targets_code g c [] = []
-targets_code g c (t ∷ ts) = targets_code g (past c (in_token t.0)) ts ++ store t.1 (seen_at g.uses c.uses) ∷ []
 
 -- ---- trains
 
@@ -92,15 +87,6 @@ and_one read.Two = read.One
 abbrev pub parts_read : Deriveds → Read
 parts_read no_deriveds = read.No
 parts_read (and_deriveds d ds) = and_one (parts_read ds)
-
--- behind one more part, that part and two others are made one
-abbrev pub fork_code : Read → List Instr
-fork_code read.Two = i.Train3 ∷ []
-fork_code r = []
-
-abbrev pub atop_code : Read → List Instr
-atop_code read.Two = i.Train2 ∷ []
-atop_code r = []
 
 -- ---- lists
 
@@ -118,66 +104,141 @@ abbrev pub derive_instr : Use → Instr
 derive_instr (One m) = i.Derive1
 derive_instr (Two m x) = i.Derive2
 
+-- ---- what is made of an instruction and a lead
+
+-- behind one more part, that part and two others are made one
+abbrev pub put_fork : {A : Type 0} → (Instr → A) → Read → List A
+put_fork put read.Two = put i.Train3 ∷ []
+put_fork put r = []
+
+abbrev pub put_atop : {A : Type 0} → (Instr → A) → Read → List A
+put_atop put read.Two = put i.Train2 ∷ []
+put_atop put r = []
+
+module _ {A : Type 0} (put : Option Place → Instr → A) where
+  abbrev pub put_fields : List (List ℕ) → List Token → List A
+  put_fields names ts = map (λ t. put (Some t.place) (i.Field (name_number names (name_of t)))) ts
+
+  -- the rightmost target is stored first
+  abbrev pub put_targets : Setting → Count → List (Token × Arrow) → List A
+  put_targets g c [] = []
+  put_targets g c (t ∷ ts) = put_targets g (past c (in_token t.0)) ts ++ put (Some t.0.place) (store t.1 (seen_at g.uses c.uses)) ∷ []
+
+  abbrev pub put_derives : Uses → List A
+  put_derives no_uses = []
+  put_derives (and_uses u us) = put (modifier_lead u) (derive_instr u) ∷ put_derives us
+
+  -- ---- expressions, where so much comes before
+
+  module _ (g : Setting) where
+    abbrev mutual
+      pub put_expr : Count → Expr → List A
+      put_expr c (Value none (and_steps (Modify t d) ss)) =
+          let at : Count = past c (in_steps ss) in
+          put (Some t.place) (load (seen_at g.uses at.uses)) ∷ put_derived (past at (in_token t)) d ++ put (derived_lead d) i.Call1 ∷ put (Some t.place) (store arrow.Change (seen_at g.uses at.uses)) ∷ put_steps c ss
+      put_expr c (Value none ss) = put None i.Nothing ∷ put_steps c ss
+      put_expr c (Value (some x) ss) = put_part (past c (in_steps ss)) x ++ put_steps c ss
+      put_expr c (Train targets ds) = put_deriveds (past c (in_targets targets)) ds ++ put_atop (put (deriveds_lead ds)) (parts_read ds) ++ put_targets g c targets
+      put_expr c (Modifier targets x) = put_part (past c (in_targets targets)) x ++ put_targets g c targets
+
+      pub put_part : Count → Part → List A
+      put_part c (Leaf t) = put (Some t.place) (leaf_instr g c.uses t.kind) ∷ []
+      put_part c (Elements es) = put_exprs c es ++ put (exprs_lead es) (i.List (how_many_exprs es)) ∷ []
+      put_part c (Merge es) = put_exprs c es ++ put (exprs_lead es) (i.List (how_many_exprs es)) ∷ put (exprs_lead es) (i.Given 13) ∷ put (exprs_lead es) i.Call1 ∷ []
+      put_part c (Paren e) = put_expr c e
+      put_part c (Block (block place kind bs)) = put (Some place) (block_instr kind c.blocks) ∷ []
+      put_part c (Field base names) = put_part c base ++ put_fields g.names names
+      put_part c (Strand ps) = put_parts c ps ++ put (parts_lead ps) (i.List (how_many_parts ps)) ∷ []
+      put_part c (Nothing place) = put (Some place) i.Nothing ∷ []
+
+      pub put_steps : Count → Steps → List A
+      put_steps c no_steps = []
+      put_steps c (and_steps s ss) = put_step (past c (in_steps ss)) s ++ put_steps c ss
+
+      -- `a F↩ x` reads `a` behind its function
+      pub put_step : Count → Step → List A
+      put_step c (Apply d none) = put_derived c d ++ put (derived_lead d) i.Call1 ∷ []
+      put_step c (Apply d (some w)) = put_derived (past c (in_part w)) d ++ put_part c w ++ put (derived_lead d) i.Call2 ∷ []
+      put_step c (Assign q a) = put (pattern_lead q) (target_instr g c q a) ∷ []
+      put_step c (Modify t d) = put_derived (past c (in_token t)) d ++ put (Some t.place) (load (seen_at g.uses c.uses)) ∷ put (derived_lead d) i.Call2 ∷ put (Some t.place) (store arrow.Change (seen_at g.uses c.uses)) ∷ []
+
+      -- all modifiers from the last, which is the outermost, then the part, and what is made of them
+      pub put_derived : Count → Derived → List A
+      put_derived c (derived x us) = put_uses (past c (in_part x)) us ++ put_part c x ++ put_derives us
+
+      pub put_uses : Count → Uses → List A
+      put_uses c no_uses = []
+      put_uses c (and_uses u us) = put_uses (past c (in_use u)) us ++ put_use c u
+
+      -- the right operand before the modifier
+      pub put_use : Count → Use → List A
+      put_use c (One m) = put_part c m
+      put_use c (Two m x) = put_part (past c (in_part m)) x ++ put_part c m
+
+      -- the parts of a train from the right
+      pub put_deriveds : Count → Deriveds → List A
+      put_deriveds c no_deriveds = []
+      put_deriveds c (and_deriveds d ds) = put_deriveds (past c (in_derived d)) ds ++ put_derived c d ++ put_fork (put (derived_lead d)) (parts_read ds)
+
+      pub put_exprs : Count → Exprs → List A
+      put_exprs c no_exprs = []
+      put_exprs c (and_exprs e es) = put_expr c e ++ put_exprs (past c (in_expr e)) es
+
+      pub put_parts : Count → Parts → List A
+      put_parts c no_parts = []
+      put_parts c (and_parts x xs) = put_part c x ++ put_parts (past c (in_part x)) xs
+
+-- ---- the instructions with their places, where a piece without a lead takes this one
+
+abbrev pub at_lead : Place → Option Place → Instr → Instr × Place
+at_lead l q i = (i, or_else l q)
+
+-- ---- the instructions alone
+
+abbrev pub alone : Option Place → Instr → Instr
+alone l i = i
+
+abbrev pub fields_code : List (List ℕ) → List Token → List Instr
+fields_code = put_fields alone
+
+abbrev pub targets_code : Setting → Count → List (Token × Arrow) → List Instr
+targets_code = put_targets alone
+
+abbrev pub fork_code : Read → List Instr
+fork_code = put_fork (λ i. i)
+
+abbrev pub atop_code : Read → List Instr
+atop_code = put_atop (λ i. i)
+
 abbrev pub derives : Uses → List Instr
-derives no_uses = []
-derives (and_uses u us) = derive_instr u ∷ derives us
+derives = put_derives alone
 
--- ---- expressions, where so much comes before
+abbrev pub expr_code : Setting → Count → Expr → List Instr
+expr_code = put_expr alone
 
-module _ (g : Setting) where
-  abbrev mutual
-    pub expr_code : Count → Expr → List Instr
-    expr_code c (Value none (and_steps (Modify t d) ss)) =
-        let at : Count = past c (in_steps ss) in
-        load (seen_at g.uses at.uses) ∷ derived_code (past at (in_token t)) d ++ i.Call1 ∷ store arrow.Change (seen_at g.uses at.uses) ∷ steps_code c ss
-    expr_code c (Value none ss) = i.Nothing ∷ steps_code c ss
-    expr_code c (Value (some x) ss) = part_code (past c (in_steps ss)) x ++ steps_code c ss
-    expr_code c (Train targets ds) = deriveds_code (past c (in_targets targets)) ds ++ atop_code (parts_read ds) ++ targets_code g c targets
-    expr_code c (Modifier targets x) = part_code (past c (in_targets targets)) x ++ targets_code g c targets
+abbrev pub part_code : Setting → Count → Part → List Instr
+part_code = put_part alone
 
-    pub part_code : Count → Part → List Instr
-    part_code c (Leaf t) = leaf_instr g c.uses t.kind ∷ []
-    part_code c (Elements es) = exprs_code c es ++ i.List (how_many_exprs es) ∷ []
-    part_code c (Merge es) = exprs_code c es ++ i.List (how_many_exprs es) ∷ i.Given 13 ∷ i.Call1 ∷ []
-    part_code c (Paren e) = expr_code c e
-    part_code c (Block (block place kind bs)) = block_instr kind c.blocks ∷ []
-    part_code c (Field base names) = part_code c base ++ fields_code g.names names
-    part_code c (Strand ps) = parts_code c ps ++ i.List (how_many_parts ps) ∷ []
-    part_code c (Nothing place) = i.Nothing ∷ []
+abbrev pub steps_code : Setting → Count → Steps → List Instr
+steps_code = put_steps alone
 
-    pub steps_code : Count → Steps → List Instr
-    steps_code c no_steps = []
-    steps_code c (and_steps s ss) = step_code (past c (in_steps ss)) s ++ steps_code c ss
+abbrev pub step_code : Setting → Count → Step → List Instr
+step_code = put_step alone
 
-    -- `a F↩ x` reads `a` behind its function
-    pub step_code : Count → Step → List Instr
-    step_code c (Apply d none) = derived_code c d ++ i.Call1 ∷ []
-    step_code c (Apply d (some w)) = derived_code (past c (in_part w)) d ++ part_code c w ++ i.Call2 ∷ []
-    step_code c (Assign q a) = target_instr g c q a ∷ []
-    step_code c (Modify t d) = derived_code (past c (in_token t)) d ++ load (seen_at g.uses c.uses) ∷ i.Call2 ∷ store arrow.Change (seen_at g.uses c.uses) ∷ []
+abbrev pub derived_code : Setting → Count → Derived → List Instr
+derived_code = put_derived alone
 
-    -- all modifiers from the last, which is the outermost, then the part, and what is made of them
-    pub derived_code : Count → Derived → List Instr
-    derived_code c (derived x us) = uses_code (past c (in_part x)) us ++ part_code c x ++ derives us
+abbrev pub uses_code : Setting → Count → Uses → List Instr
+uses_code = put_uses alone
 
-    pub uses_code : Count → Uses → List Instr
-    uses_code c no_uses = []
-    uses_code c (and_uses u us) = uses_code (past c (in_use u)) us ++ use_code c u
+abbrev pub use_code : Setting → Count → Use → List Instr
+use_code = put_use alone
 
-    -- the right operand before the modifier
-    pub use_code : Count → Use → List Instr
-    use_code c (One m) = part_code c m
-    use_code c (Two m x) = part_code (past c (in_part m)) x ++ part_code c m
+abbrev pub deriveds_code : Setting → Count → Deriveds → List Instr
+deriveds_code = put_deriveds alone
 
-    -- the parts of a train from the right
-    pub deriveds_code : Count → Deriveds → List Instr
-    deriveds_code c no_deriveds = []
-    deriveds_code c (and_deriveds d ds) = deriveds_code (past c (in_derived d)) ds ++ derived_code c d ++ fork_code (parts_read ds)
+abbrev pub exprs_code : Setting → Count → Exprs → List Instr
+exprs_code = put_exprs alone
 
-    pub exprs_code : Count → Exprs → List Instr
-    exprs_code c no_exprs = []
-    exprs_code c (and_exprs e es) = expr_code c e ++ exprs_code (past c (in_expr e)) es
-
-    pub parts_code : Count → Parts → List Instr
-    parts_code c no_parts = []
-    parts_code c (and_parts x xs) = part_code c x ++ parts_code (past c (in_part x)) xs
+abbrev pub parts_code : Setting → Count → Parts → List Instr
+parts_code = put_parts alone

@@ -3,6 +3,7 @@ pub mod Pools
 pub mod Patterns
 pub mod Gathering
 pub mod Expressions
+pub mod Placing
 pub mod Bodies
 pub mod Blocks
 pub mod Translation

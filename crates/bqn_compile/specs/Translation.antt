@@ -1,5 +1,5 @@
 -- The code of a program: this project's own.
-use Rattle.std.specs.Prelude.{List, [], ◌∷◌, slice_get, None, Result, Ok, Err}
+use Rattle.std.specs.Prelude.{true, List, [], ◌∷◌, slice_get, None, Result, Ok, Err}
 use Rattle.bqn_base.specs.declared.refusal.Refusal.{Refusal}
 use Rattle.bqn_syntax.specs.declared.tree.Class.TheVariants as class
 use Rattle.bqn_syntax.specs.Plain.{Stmts, body}
@@ -27,6 +27,7 @@ program g names ss = record { class = class.Immediate; parent = 0; bodies = body
 -- the code of a tree with these bodies and uses, and with these pools
 abbrev pub translation : Resolution → Gathered → Stmts → Code
 translation r pools ss = record {
+  placed = true;
   names = pools.names;
   constants = pools.constants;
   patterns = pools.patterns;

@@ -2,8 +2,10 @@
 use Rattle.std.proofs.Common.{◌≡◌, ◌∙◌, ℕ, zero, suc, ◌+◌, Bool, true, false, List, [], ◌∷◌, ◌++◌, length, Option, Some, None, Result, Ok, Err, refl, sym, ap, subst, append_assoc, append-nil, arith}
 use Rattle.std.specs.Prelude.{encode_utf8_all}
 use Rattle.bqn_base.specs.declared.fault.Fault.{Fault}
+use Rattle.bqn_base.specs.declared.place.Place.{Place}
+use Rattle.bqn_base.specs.Raised.{Raised, unplaced, placed}
 use Rattle.bqn_base.specs.Running.{Res, Gives, Ends, then_do}
-use Rattle.bqn_syntax.specs.Actions.{go_on, ◌>>=◌, fault, found, used, where_so}
+use Rattle.bqn_syntax.specs.Actions.{at, go_on, ◌>>=◌, fault, found, used, where_so}
 use Rattle.bqn_syntax.specs.Environments.{Environment, State, Does, stepped, wrote, within_new}
 use Rattle.bqn_evaluation.specs.Advancing.{Follows, state_of, with_more}
 
@@ -47,18 +49,22 @@ module _ {A B : Type 0} (next : A → State → Res State State B) (on : (a : A)
 pub gives : {A : Type 0} (a : A) → Advances (λ (s : State). Gives a s)
 gives a = record { follows = itself; goes_on = λ k s. refl }
 
-on_answer : {A B : Type 0} (next : A → Does B) → ((a : A) → Advances (next a)) → (r : Result A Fault) → Advances (go_on next r)
+on_answer : {A B : Type 0} (next : A → Does B) → ((a : A) → Advances (next a)) → (r : Result A Raised) → Advances (go_on next r)
 on_answer next on (Ok a) = on a
 on_answer next on (Err f) = gives (Err f)
 
 pub binds : {A B : Type 0} (m : Does A) (next : A → Does B) → Advances m → ((a : A) → Advances (next a)) → Advances (m >>= next)
 binds m next a on = then_advances (go_on next) (on_answer next on) m a
 
-pub fails : {A : Type 0} (f : Fault) → Advances {A = Result A Fault} (fault f)
-fails f = gives (Err f)
+pub fails : {A : Type 0} (f : Fault) → Advances {A = Result A Raised} (fault f)
+fails f = gives (Err (unplaced f))
+
+-- an operation at a place
+pub places : {A : Type 0} (p : Place) (m : Does A) → Advances m → Advances (at p m)
+places p m a = then_advances (λ r s. Gives (placed p r) s) (λ r. gives (placed p r)) m a
 
 pub finds : {A : Type 0} (f : Fault) (x : Option A) → Advances (found f x)
-finds f None = gives (Err f)
+finds f None = gives (Err (unplaced f))
 finds f (Some x) = gives (Ok x)
 
 pub uses : {A B : Type 0} (x : Option A) (next : A → Does B) → ((a : A) → Advances (next a)) → Advances (used x >>= next)

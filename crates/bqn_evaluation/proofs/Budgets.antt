@@ -15,7 +15,7 @@ use Rattle.bqn_evaluation.proofs.Bodies.{body, calls-advance}
 
 answers : (b : Body) (r : Ending) → Advances (line_answer b r)
 answers b NextBody = fails _
-answers b (EndsWith v) = gives (Ok (body_answer b (line_frame b) v))
+answers b (EndsWith p v) = gives (Ok (body_answer b (line_frame b) v))
 
 module _ (room : ℕ) (earlier : Earlier) (args : Value) (ss : Stmts) where
   abbrev setting : Setting

@@ -3,6 +3,8 @@ use Rattle.std.proofs.Common.{◌≡◌, ℕ, Bool, true, false, List, [], ◌�
 use Rattle.std.specs.List.{list_all}
 use Rattle.bqn_base.specs.declared.fault.Fault.TheVariants.{Undefined, Pattern as NoMatch, NoField}
 use Rattle.bqn_base.specs.Plain.{Value, Array, Namespace, Values, more}
+use Rattle.bqn_base.specs.declared.place.Place.{Place}
+use Rattle.bqn_base.specs.Raised.{raised}
 use Rattle.bqn_syntax.specs.declared.token.Special.{Special}
 use Rattle.bqn_syntax.specs.declared.token.Special.TheVariants as special
 use Rattle.bqn_syntax.specs.declared.token.Kind.{Kind}
@@ -11,14 +13,15 @@ use Rattle.bqn_syntax.specs.declared.token.Token.{Token}
 use Rattle.bqn_syntax.specs.declared.tree.Arrow.{Arrow}
 use Rattle.bqn_syntax.specs.declared.tree.Arrow.TheVariants as arrow
 use Rattle.bqn_syntax.specs.Plain.{Pattern, Name, Skip, Literal, ListPattern, StrandPattern, Patterns, and_patterns, Header}
+use Rattle.bqn_syntax.specs.Leads.{or_else, pattern_lead, header_lead}
 use Rattle.bqn_syntax.specs.Scope.{Seen, name_of, has}
-use Rattle.bqn_syntax.specs.Actions.{◌>>=◌, pure, fault, known, used, where_so}
+use Rattle.bqn_syntax.specs.Actions.{at, ◌>>=◌, pure, fault, known, used, where_so}
 use Rattle.bqn_syntax.specs.Blocks.{Numbered, Block}
 use Rattle.bqn_syntax.specs.Environments.{State, Does, value_in, looked, seen_from, look, define, changed, change, put_at, put_seen}
 use Rattle.bqn_syntax.specs.Frames.{Setting, Frame, literal, special_value, left_of, right_of}
-use Rattle.bqn_syntax.specs.Matching.{fields_of, field_value, field_in, field, store_named, store, store_targets, assigned, Fit, Fits, Mismatch, Missing, and_fit, literal_fit, as_many, names_in, taken_apart, store_fields, fields_fit, fit, all_fit, must_fit, bind, does_fit, argument_fits, argument, name_special, name_operand, own_special, header_fits}
+use Rattle.bqn_syntax.specs.Matching.{fields_of, field_value, field_in, field, store_named, store, stays, assigned, Fit, Fits, Mismatch, Missing, and_fit, literal_fit, as_many, names_in, taken_apart, store_fields, fields_fit, fit, all_fit, must_fit, bind, does_fit, argument_fits, argument, name_special, name_operand, own_special, header_fits}
 use Rattle.bqn_evaluation.specs.Advancing.{with_more}
-use Rattle.bqn_evaluation.proofs.Actions.{Advances, gives, binds, fails, finds, uses, where_advances, puts, depends}
+use Rattle.bqn_evaluation.proofs.Actions.{Advances, gives, binds, fails, finds, uses, places, where_advances, puts, depends}
 
 -- ---- variables
 
@@ -68,13 +71,12 @@ store-named f a k v = gives (Ok tt)
 pub stores : (f : Frame) (a : Arrow) (t : Token) (v : Value) → Advances (store f a t v)
 stores f a t v = store-named f a t.kind v
 
-pub store-targets : (f : Frame) (ts : List (Token × Arrow)) (v : Value) → Advances (store_targets f ts v)
-store-targets f [] v = gives (Ok tt)
-store-targets f (t ∷ ts) v = binds (store_targets f ts v) (λ u. store f t.1 t.0 v) (store-targets f ts v) (λ u. stores f t.1 t.0 v)
+pub stays-stored : (f : Frame) (a : Arrow) (t : Token) (v : Option Value) → Advances (stays f a t v)
+stays-stored f a t v = uses v (λ x. store f a t x >>= (λ u. pure (Some x))) (λ x. binds (store f a t x) (λ u. pure (Some x)) (stores f a t x) (λ u. gives (Ok (Some x))))
 
 pub assigns : (f : Frame) (ts : List (Token × Arrow)) (v : Option Value) → Advances (assigned f ts v)
 assigns f [] v = gives (Ok v)
-assigns f (t ∷ ts) v = uses v (λ x. store_targets f (t ∷ ts) x >>= (λ u. pure (Some x))) (λ x. binds (store_targets f (t ∷ ts) x) (λ u. pure (Some x)) (store-targets f (t ∷ ts) x) (λ u. gives (Ok (Some x))))
+assigns f (t ∷ ts) v = binds (assigned f ts v) (λ x. at t.0.place (stays f t.1 t.0 x)) (assigns f ts v) (λ x. places t.0.place (stays f t.1 t.0 x) (stays-stored f t.1 t.0 x))
 
 -- ---- patterns
 
@@ -99,7 +101,7 @@ mutual
   pub fits : (g : Setting) (f : Frame) (a : Arrow) (q : Pattern) (v : Value) → Advances (fit g f a q v)
   fits g f a (Name t) v = binds (store f a t v) (λ u. pure Fits) (stores f a t v) (λ u. gives (Ok Fits))
   fits g f a (Skip place) v = gives (Ok Fits)
-  fits g f a (Literal t) v = gives (literal_fit (literal t.kind) v)
+  fits g f a (Literal t) v = gives (raised (literal_fit (literal t.kind) v))
   fits g f a (ListPattern qs) v = takes-apart (λ xs. where_so Mismatch (all_fit g f a qs xs) (as_many qs xs)) (fields_fit g f a (names_in qs)) (pure Mismatch) (λ xs. where_advances Mismatch (all_fit g f a qs xs) (all-fit g f a qs xs) (as_many qs xs)) (fields-fit g f a (names_in qs)) (gives (Ok Mismatch)) v
   fits g f a (StrandPattern qs) v = takes-apart (λ xs. where_so Mismatch (all_fit g f a qs xs) (as_many qs xs)) (fields_fit g f a (names_in qs)) (pure Mismatch) (λ xs. where_advances Mismatch (all_fit g f a qs xs) (all-fit g f a qs xs) (as_many qs xs)) (fields-fit g f a (names_in qs)) (gives (Ok Mismatch)) v
 
@@ -121,41 +123,41 @@ module _ (g : Setting) (f : Frame) where
   stored-true : (t : Token) (x : Value) → Advances (store f arrow.Define t x >>= (λ u. pure true))
   stored-true t x = binds (store f arrow.Define t x) (λ u. pure true) (stores f arrow.Define t x) (λ u. gives (Ok true))
 
-  named-argument : (t : Token) (v : Option Value) (k : Kind) → Advances (elim k [ kind.Special s r ↦ pure true | _ ↦ used v >>= (λ x. store f arrow.Define t x >>= (λ u. pure true)) ])
-  named-argument t v (kind.Special s r) = gives (Ok true)
-  named-argument t v k = uses v (λ x. store f arrow.Define t x >>= (λ u. pure true)) (stored-true t)
+  named-argument : (p : Place) (t : Token) (v : Option Value) (k : Kind) → Advances (elim k [ kind.Special s r ↦ pure true | _ ↦ at p (used v >>= (λ x. store f arrow.Define t x >>= (λ u. pure true))) ])
+  named-argument p t v (kind.Special s r) = gives (Ok true)
+  named-argument p t v k = places p (used v >>= (λ x. store f arrow.Define t x >>= (λ u. pure true))) (uses v (λ x. store f arrow.Define t x >>= (λ u. pure true)) (stored-true t))
 
-  fitted : (q : Pattern) (v : Option Value) → Advances (used v >>= (λ x. fit g f arrow.Define q x >>= (λ r. pure (does_fit r))))
-  fitted q v = uses v (λ x. fit g f arrow.Define q x >>= (λ r. pure (does_fit r))) (λ x. binds (fit g f arrow.Define q x) (λ r. pure (does_fit r)) (fits g f arrow.Define q x) (λ r. gives (Ok (does_fit r))))
+  fitted : (p : Place) (q : Pattern) (v : Option Value) → Advances (at p (used v >>= (λ x. fit g f arrow.Define q x >>= (λ r. pure (does_fit r)))))
+  fitted p q v = places p (used v >>= (λ x. fit g f arrow.Define q x >>= (λ r. pure (does_fit r)))) (uses v (λ x. fit g f arrow.Define q x >>= (λ r. pure (does_fit r))) (λ x. binds (fit g f arrow.Define q x) (λ r. pure (does_fit r)) (fits g f arrow.Define q x) (λ r. gives (Ok (does_fit r)))))
 
-  argument-fits : (q : Pattern) (v : Option Value) → Advances (argument_fits g f q v)
-  argument-fits (Name t) v = named-argument t v t.kind
-  argument-fits q v = fitted q v
+  argument-fits : (p : Place) (q : Pattern) (v : Option Value) → Advances (argument_fits g f p q v)
+  argument-fits p (Name t) v = named-argument p t v t.kind
+  argument-fits p q v = fitted p q v
 
-  argument-advances : (q : Option Pattern) (v : Option Value) → Advances (argument g f q v)
-  argument-advances None v = gives (Ok true)
-  argument-advances (Some q) v = argument-fits q v
+  argument-advances : (l : Place) (q : Option Pattern) (v : Option Value) → Advances (argument g f l q v)
+  argument-advances l None v = gives (Ok true)
+  argument-advances l (Some q) v = argument-fits (or_else l (pattern_lead q)) q v
 
-  name-special : (s : Special) (k : Kind) → Advances (name_special f s k)
-  name-special s (kind.Word name r) = binds (known (special_value f s) >>= used) (define f.scopes f.environment name) (binds (known (special_value f s)) used (gives (special_value f s)) (λ v. finds _ v)) (defines f.scopes f.environment name)
-  name-special s k = gives (Ok tt)
+  name-special : (s : Special) (p : Place) (k : Kind) → Advances (name_special f s p k)
+  name-special s p (kind.Word name r) = binds (at p (known (special_value f s))) (λ v. at p (used v >>= define f.scopes f.environment name)) (places p (known (special_value f s)) (gives (raised (special_value f s)))) (λ v. places p (used v >>= define f.scopes f.environment name) (uses v (define f.scopes f.environment name) (defines f.scopes f.environment name)))
+  name-special s p k = gives (Ok tt)
 
   name-operand : (s : Special) (t : Option Token) → Advances (name_operand f s t)
   name-operand s None = gives (Ok tt)
-  name-operand s (Some t) = name-special s t.kind
+  name-operand s (Some t) = name-special s t.place t.kind
 
   pub header-fits : (h : Option Header) → Advances (header_fits g f h)
   header-fits None = gives (Ok true)
-  header-fits (Some h) = binds (argument g f h.left (left_of f.arguments)) (where_so false names) (argument-advances h.left (left_of f.arguments)) (where_advances false names (binds (name_operand f special.LeftOperand h.left_operand) own_name (name-operand special.LeftOperand h.left_operand) (λ u. binds (name_special f (own_special h.own.kind) h.own.kind) right_name (name-special (own_special h.own.kind) h.own.kind) (λ u. binds (name_operand f special.RightOperand h.right_operand) right (name-operand special.RightOperand h.right_operand) (λ u. argument-advances h.right (right_of f.arguments))))))
+  header-fits (Some h) = binds (argument g f (header_lead h) h.left (left_of f.arguments)) (where_so false names) (argument-advances (header_lead h) h.left (left_of f.arguments)) (where_advances false names (binds (name_operand f special.LeftOperand h.left_operand) own_name (name-operand special.LeftOperand h.left_operand) (λ u. binds (name_special f (own_special h.own.kind) h.own.place h.own.kind) right_name (name-special (own_special h.own.kind) h.own.place h.own.kind) (λ u. binds (name_operand f special.RightOperand h.right_operand) right (name-operand special.RightOperand h.right_operand) (λ u. argument-advances (header_lead h) h.right (right_of f.arguments))))))
     where
       right : Unit {0} → Does Bool
-      right u = argument g f h.right (right_of f.arguments)
+      right u = argument g f (header_lead h) h.right (right_of f.arguments)
 
       right_name : Unit {0} → Does Bool
       right_name u = name_operand f special.RightOperand h.right_operand >>= right
 
       own_name : Unit {0} → Does Bool
-      own_name u = name_special f (own_special h.own.kind) h.own.kind >>= right_name
+      own_name u = name_special f (own_special h.own.kind) h.own.place h.own.kind >>= right_name
 
       names : Does Bool
       names = name_operand f special.LeftOperand h.left_operand >>= own_name

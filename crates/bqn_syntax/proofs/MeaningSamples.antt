@@ -39,12 +39,12 @@ pub data Seen : Type 0 where
 abbrev seen : Outcome → Seen
 seen (Answers None) = nothing
 seen (Answers (Some v)) = gives v
-seen (Faults f) = fails f
+seen (Faults f) = fails f.fault
 seen IsSpent = spent
 
 abbrev seen_call : Ran Value → Seen
 seen_call (Gives (Ok v) s) = gives v
-seen_call (Gives (Err f) s) = fails f
+seen_call (Gives (Err f) s) = fails f.fault
 seen_call (Ends s) = spent
 
 abbrev limited : (room steps : ℕ) → List ℕ → Seen

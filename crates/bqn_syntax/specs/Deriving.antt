@@ -6,11 +6,12 @@ use Rattle.bqn_base.specs.declared.fault.Fault.TheVariants.{NotCallable, Nothing
 use Rattle.bqn_base.specs.Plain.{Maker, One, Two, Atop, Fork, Value, Given, Function, Modifier1, Modifier2, Values, none, more, count, is_given_modifier1, is_given_modifier2}
 use Rattle.bqn_base.specs.Relations.{both}
 use Rattle.bqn_base.specs.Limits.{array, derived, block_function}
-use Rattle.bqn_base.specs.Calls.{no_arguments, Call, End, Enter, answer, fault as call_fault, call}
+use Rattle.bqn_base.specs.declared.place.Place.{Place}
+use Rattle.bqn_base.specs.Calls.{no_arguments, Call, End, Enter, answer, fault as call_fault, known as call_known, call}
 use Rattle.bqn_base.specs.Running.{Runs}
 use Rattle.bqn_syntax.specs.declared.tree.Class.{Class}
 use Rattle.bqn_syntax.specs.declared.tree.Class.TheVariants as class
-use Rattle.bqn_syntax.specs.Actions.{Action, ◌>>=◌, pure, fault, known, used}
+use Rattle.bqn_syntax.specs.Actions.{Action, at, ◌>>=◌, pure, fault, known, used}
 use Rattle.bqn_syntax.specs.Frames.{given}
 
 -- ---- lists
@@ -28,9 +29,9 @@ listed (Some xs) = array (count xs ∷ []) xs None
 abbrev pub list_of : {X S : Type 0} → List (Option Value) → Action X S Value
 list_of xs = known (listed (elements xs))
 
--- `[..]`: the list, called with `>`
-abbrev pub merged : {X S : Type 0} → Runs X S → List (Option Value) → Action X S Value
-merged h xs = list_of xs >>= (λ x. h (call (Given 13) None x))
+-- `[..]`: the list, called with `>`, both at this place
+abbrev pub merged : {X S : Type 0} → Runs X S → Place → List (Option Value) → Action X S Value
+merged h p xs = at p (list_of xs) >>= (λ x. at p (h (call (Given 13) None x)))
 
 -- ---- blocks
 
@@ -55,10 +56,10 @@ standing class.Mod2Deferred b e = answer (Modifier2 b e)
 -- a block's modifier makes a function, where it waits for arguments, and else it is run
 abbrev pub block_with : Option Class → (block environment : ℕ) → Values → Call
 block_with None b e fs = call_fault NotCallable
-block_with (Some c) b e fs = if waits c then End (block_function b e fs) else Enter b e fs no_arguments End
+block_with (Some c) b e fs = if waits c then call_known (block_function b e fs) else Enter b e fs no_arguments End
 
 abbrev pub given_with : Bool → Maker → Values → Call
-given_with true maker fs = End (derived maker fs)
+given_with true maker fs = call_known (derived maker fs)
 given_with false maker fs = call_fault NotCallable
 
 -- where blocks are of these classes

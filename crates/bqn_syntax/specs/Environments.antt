@@ -1,9 +1,9 @@
 -- Environments, and reading and storing variables: BQN's page on scope. That an environment is told by its number, and is of use
 -- only to the body for which it was made, is this project's own.
 use Rattle.std.specs.Prelude.{ℕ, zero, suc, nat_eq, Bool, true, false, List, [], ◌∷◌, ◌++◌, length, map, slice_get, slice_set, Option, Some, None, Result, Ok, encode_utf8_all}
-use Rattle.bqn_base.specs.declared.fault.Fault.{Fault}
 use Rattle.bqn_base.specs.declared.fault.Fault.TheVariants.{Undefined}
 use Rattle.bqn_base.specs.Plain.{Value}
+use Rattle.bqn_base.specs.Raised.{Raised}
 use Rattle.bqn_base.specs.Running.{Res, Gives, Ends, Runs}
 use Rattle.bqn_syntax.specs.Scope.{Seen, same_name, sees}
 use Rattle.bqn_syntax.specs.Actions.{Action, fault, found}
@@ -27,7 +27,7 @@ Does A = Action State State A
 
 -- what evaluating gives
 abbrev pub Ran : Type 0 → Type 0
-Ran A = Res State State (Result A Fault)
+Ran A = Res State State (Result A Raised)
 
 -- how calls run
 abbrev pub Calling : Type 0

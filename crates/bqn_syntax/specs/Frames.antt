@@ -94,10 +94,10 @@ abbrev pub there : Option Value → Result (Option Value) Fault
 there None = Err Undefined
 there (Some v) = Ok (Some v)
 
--- a special name; `𝕨` may be Nothing
+-- a special name; `𝕨` may be Nothing, and so would `𝕩` be where nothing is given
 abbrev pub special_value : Frame → Special → Result (Option Value) Fault
 special_value f special.Left = Ok (left_of f.arguments)
-special_value f special.Right = there (right_of f.arguments)
+special_value f special.Right = Ok (right_of f.arguments)
 special_value f special.Own = Ok (Some (Function f.block f.parent f.operands))
 special_value f special.LeftOperand = there (left_operand f.operands)
 special_value f special.RightOperand = there (right_operand f.operands)

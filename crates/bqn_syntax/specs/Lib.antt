@@ -9,6 +9,7 @@ pub mod Form
 pub mod Evaluation
 pub mod Laws
 pub mod Plain
+pub mod Leads
 pub mod Levels
 pub mod Sorts
 pub mod Items

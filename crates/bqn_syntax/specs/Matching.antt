@@ -3,6 +3,7 @@ use Rattle.std.specs.Prelude.{ℕ, Bool, true, false, List, [], ◌∷◌, slice
 use Rattle.std.specs.List.{list_all}
 use Rattle.bqn_base.specs.declared.fault.Fault.{Fault}
 use Rattle.bqn_base.specs.declared.fault.Fault.TheVariants.{Undefined, Pattern as NoMatch, NoField}
+use Rattle.bqn_base.specs.declared.place.Place.{Place}
 use Rattle.bqn_base.specs.declared.role.Role.TheVariants as role
 use Rattle.bqn_base.specs.Plain.{Value, Array, Namespace, Values, none, more}
 use Rattle.bqn_base.specs.Relations.{matching}
@@ -14,8 +15,9 @@ use Rattle.bqn_syntax.specs.declared.token.Token.{Token}
 use Rattle.bqn_syntax.specs.declared.tree.Arrow.{Arrow}
 use Rattle.bqn_syntax.specs.declared.tree.Arrow.TheVariants as arrow
 use Rattle.bqn_syntax.specs.Plain.{Pattern, Name, Skip, Literal, ListPattern, StrandPattern, Patterns, no_patterns, and_patterns, Header}
+use Rattle.bqn_syntax.specs.Leads.{or_else, pattern_lead, header_lead}
 use Rattle.bqn_syntax.specs.Scope.{name_of, has}
-use Rattle.bqn_syntax.specs.Actions.{Action, ◌>>=◌, pure, fault, known, found, used, where_so}
+use Rattle.bqn_syntax.specs.Actions.{Action, at, ◌>>=◌, pure, fault, known, found, used, where_so}
 use Rattle.bqn_syntax.specs.Blocks.{Block, Body, body_at}
 use Rattle.bqn_syntax.specs.Environments.{Environment, State, Does, value_in, define, change}
 use Rattle.bqn_syntax.specs.Frames.{Setting, Frame, literal, special_value, left_of, right_of}
@@ -57,15 +59,14 @@ store_named f a k v = pure tt
 abbrev pub store : Frame → Arrow → Token → Value → Does (Unit {0})
 store f a t v = store_named f a t.kind v
 
--- the rightmost target is stored first
-abbrev pub store_targets : Frame → List (Token × Arrow) → Value → Does (Unit {0})
-store_targets f [] v = pure tt
-store_targets f (t ∷ ts) v = store_targets f ts v >>= (λ u. store f t.1 t.0 v)
+-- a name gets a value, which stays
+abbrev pub stays : Frame → Arrow → Token → Option Value → Does (Option Value)
+stays f a t v = used v >>= (λ x. store f a t x >>= (λ u. pure (Some x)))
 
--- a value that is assigned to these targets, if there are any
+-- a value that is assigned to these targets, if there are any; the rightmost is stored first
 abbrev pub assigned : Frame → List (Token × Arrow) → Option Value → Does (Option Value)
 assigned f [] v = pure v
-assigned f (t ∷ ts) v = used v >>= (λ x. store_targets f (t ∷ ts) x >>= (λ u. pure (Some x)))
+assigned f (t ∷ ts) v = assigned f ts v >>= (λ x. at t.0.place (stays f t.1 t.0 x))
 
 -- ---- patterns
 
@@ -151,22 +152,23 @@ does_fit Fits = true
 does_fit _ = false
 
 -- an argument of a header; `𝕨` and `𝕩` themselves ask for nothing
-abbrev pub argument_fits : Setting → Frame → Pattern → Option Value → Does Bool
-argument_fits g f (Name t) v = elim t.kind [ kind.Special s r ↦ pure true | _ ↦ used v >>= (λ x. store f arrow.Define t x >>= (λ u. pure true)) ]
-argument_fits g f q v = used v >>= (λ x. fit g f arrow.Define q x >>= (λ r. pure (does_fit r)))
+abbrev pub argument_fits : Setting → Frame → Place → Pattern → Option Value → Does Bool
+argument_fits g f p (Name t) v = elim t.kind [ kind.Special s r ↦ pure true | _ ↦ at p (used v >>= (λ x. store f arrow.Define t x >>= (λ u. pure true))) ]
+argument_fits g f p q v = at p (used v >>= (λ x. fit g f arrow.Define q x >>= (λ r. pure (does_fit r))))
 
-abbrev pub argument : Setting → Frame → Option Pattern → Option Value → Does Bool
-argument g f None v = pure true
-argument g f (Some q) v = argument_fits g f q v
+-- in a header with this lead
+abbrev pub argument : Setting → Frame → (lead : Place) → Option Pattern → Option Value → Does Bool
+argument g f l None v = pure true
+argument g f l (Some q) v = argument_fits g f (or_else l (pattern_lead q)) q v
 
 -- a name that a header has for a special name
-abbrev pub name_special : Frame → Special → Kind → Does (Unit {0})
-name_special f s (kind.Word name r) = known (special_value f s) >>= used >>= define f.scopes f.environment name
-name_special f s k = pure tt
+abbrev pub name_special : Frame → Special → Place → Kind → Does (Unit {0})
+name_special f s p (kind.Word name r) = at p (known (special_value f s)) >>= (λ v. at p (used v >>= define f.scopes f.environment name))
+name_special f s p k = pure tt
 
 abbrev pub name_operand : Frame → Special → Option Token → Does (Unit {0})
 name_operand f s None = pure tt
-name_operand f s (Some t) = name_special f s t.kind
+name_operand f s (Some t) = name_special f s t.place t.kind
 
 -- a block's own name is its modifier, where it is spelled so, and else its function
 abbrev pub own_special : Kind → Special
@@ -178,8 +180,8 @@ own_special _ = special.Own
 abbrev pub header_fits : Setting → Frame → Option Header → Does Bool
 header_fits g f None = pure true
 header_fits g f (Some h) =
-    argument g f h.left (left_of f.arguments) >>= where_so false
+    argument g f (header_lead h) h.left (left_of f.arguments) >>= where_so false
     (name_operand f special.LeftOperand h.left_operand >>= (λ u.
-    name_special f (own_special h.own.kind) h.own.kind >>= (λ u.
+    name_special f (own_special h.own.kind) h.own.place h.own.kind >>= (λ u.
     name_operand f special.RightOperand h.right_operand >>= (λ u.
-    argument g f h.right (right_of f.arguments)))))
+    argument g f (header_lead h) h.right (right_of f.arguments)))))

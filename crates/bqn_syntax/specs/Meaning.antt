@@ -6,53 +6,57 @@ use Rattle.bqn_base.specs.declared.fault.Fault.TheVariants.{Domain, NoBody}
 use Rattle.bqn_base.specs.Plain as plain
 use Rattle.bqn_base.specs.Plain.{Number, Namespace, Values}
 use Rattle.bqn_base.specs.Calls.{Arguments, no_arguments, alone, two}
+use Rattle.bqn_base.specs.declared.place.Place.{Place}
+use Rattle.bqn_base.specs.Raised.{Raised, unplaced}
 use Rattle.bqn_base.specs.Running.{Gives, Ends, Replies, calls}
 use Rattle.bqn_syntax.specs.declared.token.Token.{Token}
 use Rattle.bqn_syntax.specs.declared.tree.Class.TheVariants as class
 use Rattle.bqn_syntax.specs.declared.tree.Arrow.TheVariants as arrow
 use Rattle.bqn_syntax.specs.Plain.{Expr, Value, Train, Modifier, Use, One, Two, Part, Leaf, Elements, Merge, Paren, Block as Braces, Field, Strand, Nothing, Step, Apply, Assign, Modify, Eval, Predicate, Export, block, Derived, derived, MaybePart, none, some, Exprs, no_exprs, and_exprs, Uses, no_uses, and_uses, Parts, no_parts, and_parts, Steps, no_steps, and_steps, Stmts, no_stmts, and_stmts, Deriveds, no_deriveds, and_deriveds}
+use Rattle.bqn_syntax.specs.Leads.{or_else, pattern_lead, part_lead, derived_lead, deriveds_lead, exprs_lead, parts_lead, modifier_lead, stmt_lead, at_start as at_the_start}
 use Rattle.bqn_syntax.specs.Classes.{Calls, Monadic, Dyadic, Both}
 use Rattle.bqn_syntax.specs.Scope.{name_of, names_of, has}
 use Rattle.bqn_syntax.specs.Counting.{in_expr, in_part, in_maybe, in_steps, in_derived, in_use}
-use Rattle.bqn_syntax.specs.Actions.{◌>>=◌, pure, fault, known, used, where_so}
+use Rattle.bqn_syntax.specs.Actions.{Action, at, ◌>>=◌, pure, fault, known, used, where_so}
 use Rattle.bqn_syntax.specs.Blocks.{Block, Body, class_of, scopes_of, all_bodies, Earlier, no_lines, line_body, table_of}
 use Rattle.bqn_syntax.specs.Environments.{Environment, State, Ran, Does, Calling, stepped, wrote, within_new, look}
 use Rattle.bqn_syntax.specs.Frames.{Setting, Frame, args_value, given, leaf}
-use Rattle.bqn_syntax.specs.Matching.{field, store, assigned, bind, header_fits}
+use Rattle.bqn_syntax.specs.Matching.{field, store, stays, assigned, bind, header_fits}
 use Rattle.bqn_syntax.specs.Deriving.{list_of, merged, standing, modified_one, modified_two, Reading, Unread, and_part, train, applied}
 
 -- ---- expressions, given how calls run
 
 abbrev pub fields : Setting → List Token → Option plain.Value → Does (Option plain.Value)
 fields g [] v = pure v
-fields g (t ∷ ts) v = used v >>= (λ x. field g.blocks x (name_of t) >>= (λ y. fields g ts (Some y)))
+fields g (t ∷ ts) v = at t.place (used v >>= (λ x. field g.blocks x (name_of t))) >>= (λ y. fields g ts (Some y))
 
 -- the present value of a name that is changed
 abbrev pub present : Frame → Token → Does plain.Value
-present f t = look f.scopes f.environment (name_of t)
+present f t = at t.place (look f.scopes f.environment (name_of t))
 
 -- a name is changed to what a call gave
 abbrev pub changed_to : Frame → Token → Option plain.Value → Does (Option plain.Value)
-changed_to f t v = used v >>= (λ y. store f arrow.Change t y >>= (λ u. pure (Some y)))
+changed_to f t v = at t.place (stays f arrow.Change t v)
 
-module _ (h : Calling) (g : Setting) (f : Frame) where
+-- in a statement with this lead, which a piece without a leaf takes
+module _ (h : Calling) (g : Setting) (f : Frame) (l : Place) where
   -- each gives a value, or Nothing; the blocks in it are numbered from c on
   abbrev mutual
     pub eval_expr : Expr → (c : ℕ) → Does (Option plain.Value)
-    eval_expr (Value none (and_steps (Modify t d) ss)) c = present f t >>= (λ x. eval_derived d (c + (in_steps ss).blocks) >>= (λ k. applied h k None (Some x) >>= changed_to f t >>= eval_steps ss c))
+    eval_expr (Value none (and_steps (Modify t d) ss)) c = present f t >>= (λ x. eval_derived d (c + (in_steps ss).blocks) >>= (λ k. at (or_else l (derived_lead d)) (applied h k None (Some x)) >>= changed_to f t >>= eval_steps ss c))
     eval_expr (Value none ss) c = eval_steps ss c None
     eval_expr (Value (some x) ss) c = eval_part x (c + (in_steps ss).blocks) >>= eval_steps ss c
-    eval_expr (Train targets ds) c = eval_deriveds ds c >>= (λ r. known (train r) >>= assigned f targets)
+    eval_expr (Train targets ds) c = eval_deriveds ds c >>= (λ r. at (or_else l (deriveds_lead ds)) (known (train r)) >>= assigned f targets)
     eval_expr (Modifier targets x) c = eval_part x c >>= assigned f targets
 
     pub eval_part : Part → ℕ → Does (Option plain.Value)
-    eval_part (Leaf t) c = leaf g f t.kind
-    eval_part (Elements es) c = eval_exprs es c >>= list_of >>= given
-    eval_part (Merge es) c = eval_exprs es c >>= merged h >>= given
+    eval_part (Leaf t) c = at t.place (leaf g f t.kind)
+    eval_part (Elements es) c = eval_exprs es c >>= (λ vs. at (or_else l (exprs_lead es)) (list_of vs)) >>= given
+    eval_part (Merge es) c = eval_exprs es c >>= merged h (or_else l (exprs_lead es)) >>= given
     eval_part (Paren e) c = eval_expr e c
-    eval_part (Braces (block place kind bs)) c = h (standing kind c f.environment) >>= given
+    eval_part (Braces (block place kind bs)) c = at place (h (standing kind c f.environment)) >>= given
     eval_part (Field base names) c = eval_part base c >>= fields g names
-    eval_part (Strand ps) c = eval_parts ps c >>= list_of >>= given
+    eval_part (Strand ps) c = eval_parts ps c >>= (λ vs. at (or_else l (parts_lead ps)) (list_of vs)) >>= given
     eval_part (Nothing place) c = pure None
 
     pub eval_maybe : MaybePart → ℕ → Does (Option plain.Value)
@@ -65,9 +69,9 @@ module _ (h : Calling) (g : Setting) (f : Frame) where
 
     -- the function before its left argument; `a F↩ x` reads `a` behind its function
     pub eval_step : Step → ℕ → Option plain.Value → Does (Option plain.Value)
-    eval_step (Apply d left) c v = eval_derived d (c + (in_maybe left).blocks) >>= (λ k. eval_maybe left c >>= (λ w. applied h k w v))
-    eval_step (Assign q a) c v = used v >>= (λ x. bind g f a q x >>= (λ u. pure (Some x)))
-    eval_step (Modify t d) c v = eval_derived d c >>= (λ k. present f t >>= (λ w. applied h k (Some w) v >>= changed_to f t))
+    eval_step (Apply d left) c v = eval_derived d (c + (in_maybe left).blocks) >>= (λ k. eval_maybe left c >>= (λ w. at (or_else l (derived_lead d)) (applied h k w v)))
+    eval_step (Assign q a) c v = at (or_else l (pattern_lead q)) (used v >>= (λ x. bind g f a q x >>= (λ u. pure (Some x))))
+    eval_step (Modify t d) c v = eval_derived d c >>= (λ k. present f t >>= (λ w. at (or_else l (derived_lead d)) (applied h k (Some w) v) >>= changed_to f t))
 
     pub eval_derived : Derived → ℕ → Does (Option plain.Value)
     eval_derived (derived x us) c = eval_uses us (c + (in_part x).blocks) (eval_part x c)
@@ -79,13 +83,13 @@ module _ (h : Calling) (g : Setting) (f : Frame) where
 
     -- the right operand, the modifier, the left operand
     pub eval_use : Use → ℕ → (inside : Does (Option plain.Value)) → Does (Option plain.Value)
-    eval_use (One m) c inside = eval_part m c >>= (λ n. inside >>= modified_one (class_of g.blocks) h n)
-    eval_use (Two m x) c inside = eval_part x (c + (in_part m).blocks) >>= (λ r. eval_part m c >>= (λ n. inside >>= (λ l. modified_two (class_of g.blocks) h n l r)))
+    eval_use (One m) c inside = eval_part m c >>= (λ n. inside >>= (λ x. at (or_else l (part_lead m)) (modified_one (class_of g.blocks) h n x)))
+    eval_use (Two m x) c inside = eval_part x (c + (in_part m).blocks) >>= (λ r. eval_part m c >>= (λ n. inside >>= (λ k. at (or_else l (part_lead m)) (modified_two (class_of g.blocks) h n k r))))
 
     -- the parts of a train from the right
     pub eval_deriveds : Deriveds → ℕ → Does Reading
     eval_deriveds no_deriveds c = pure Unread
-    eval_deriveds (and_deriveds d ds) c = eval_deriveds ds (c + (in_derived d).blocks) >>= (λ r. eval_derived d c >>= (λ v. known (and_part r v)))
+    eval_deriveds (and_deriveds d ds) c = eval_deriveds ds (c + (in_derived d).blocks) >>= (λ r. eval_derived d c >>= (λ v. at (or_else l (derived_lead d)) (known (and_part r v))))
 
     pub eval_exprs : Exprs → ℕ → Does (List (Option plain.Value))
     eval_exprs no_exprs c = pure []
@@ -103,17 +107,21 @@ truth (Number (pos zero)) = Ok false
 truth (Number (pos (suc zero))) = Ok true
 truth v = Err Domain
 
--- how a body ends: it is given up for the next one, or has an answer, which may be Nothing
+abbrev pub tested : {X S : Type 0} → Option plain.Value → Action X S Bool
+tested v = used v >>= (λ x. known (truth x))
+
+-- how a body ends: it is given up for the next one, or has an answer, which may be Nothing, at this place
 pub data Ending : Type 0 where
   NextBody : Ending
-  EndsWith : Option plain.Value → Ending
+  EndsWith : Place → Option plain.Value → Ending
 
--- statements behind others, the last of which gave this; an export alone gives Nothing
-abbrev pub eval_stmts : Calling → Setting → Frame → Stmts → ℕ → Option plain.Value → Does Ending
-eval_stmts h g f no_stmts c last = pure (EndsWith last)
-eval_stmts h g f (and_stmts (Eval e) ss) c last = eval_expr h g f e c >>= eval_stmts h g f ss (c + (in_expr e).blocks)
-eval_stmts h g f (and_stmts (Predicate e) ss) c last = eval_expr h g f e c >>= used >>= (λ v. known (truth v) >>= where_so NextBody (eval_stmts h g f ss (c + (in_expr e).blocks) None))
-eval_stmts h g f (and_stmts (Export q) ss) c last = eval_stmts h g f ss c None
+-- statements behind others, the last of which has this lead and gave this; an export alone gives Nothing
+abbrev pub eval_stmts : Calling → Setting → Frame → Stmts → ℕ → Place → Option plain.Value → Does Ending
+eval_stmts h g f no_stmts c p last = pure (EndsWith p last)
+eval_stmts h g f (and_stmts (Eval e) ss) c p last = eval_expr h g f (stmt_lead (Eval e)) e c >>= eval_stmts h g f ss (c + (in_expr e).blocks) (stmt_lead (Eval e))
+eval_stmts h g f (and_stmts (Predicate e) ss) c p last =
+    eval_expr h g f (stmt_lead (Predicate e)) e c >>= (λ v. at (stmt_lead (Predicate e)) (tested v) >>= where_so NextBody (eval_stmts h g f ss (c + (in_expr e).blocks) (stmt_lead (Predicate e)) None))
+eval_stmts h g f (and_stmts (Export q) ss) c p last = eval_stmts h g f ss c (stmt_lead (Export q)) None
 
 -- the answer of a body: its namespace, where it exports
 abbrev pub body_answer : Body → Frame → Option plain.Value → Option plain.Value
@@ -121,7 +129,7 @@ body_answer b f v = if b.exports then Some (Namespace f.environment) else v
 
 -- a body, where its header fits
 abbrev pub eval_body : Calling → Setting → Body → Frame → Does Ending
-eval_body h g b f = header_fits g f b.header >>= where_so NextBody (eval_stmts h g f b.statements b.inside None)
+eval_body h g b f = header_fits g f b.header >>= where_so NextBody (eval_stmts h g f b.statements b.inside at_the_start None)
 
 -- ---- blocks
 
@@ -139,7 +147,7 @@ frame_of b n number within parent operands xs = record { scopes = scopes_of b; e
 -- a body that ends in Nothing, and exports nothing, is no use to a block; where it is given up, the next one is tried
 abbrev pub or_next : Does plain.Value → Body → Frame → Ending → Does plain.Value
 or_next next b f NextBody = next
-or_next next b f (EndsWith v) = used (body_answer b f v)
+or_next next b f (EndsWith p v) = at p (used (body_answer b f v))
 
 -- one body: a step, and a new environment
 abbrev pub try_body : Calling → Setting → Does plain.Value → Body → (block : ℕ) → Block → (parent : ℕ) → Values → Arguments → Does plain.Value
@@ -191,7 +199,7 @@ line_frame b = record { scopes = scopes_of b; environment = 0; block = 0; class 
 -- a line's answer may be Nothing
 abbrev pub line_answer : Body → Ending → Does (Option plain.Value)
 line_answer b NextBody = fault NoBody
-line_answer b (EndsWith v) = pure (body_answer b (line_frame b) v)
+line_answer b (EndsWith p v) = pure (body_answer b (line_frame b) v)
 
 -- a line in the top environment, which is the environment 0; so many calls may be open
 abbrev pub line : (room : ℕ) → Earlier → (args : plain.Value) → Stmts → Does (Option plain.Value)
@@ -206,7 +214,7 @@ at_start steps = record { environments = record { body = 0; parent = 0; variable
 
 pub data Outcome : Type 0 where
   Answers : Option plain.Value → Outcome
-  Faults : Fault → Outcome
+  Faults : Raised → Outcome
   IsSpent : Outcome
 
 -- how an evaluation ends, and the bytes that it writes
@@ -214,7 +222,7 @@ pub record Evaluated : Type 0 where
   pub outcome : Outcome
   pub written : List ℕ
 
-abbrev pub outcome_of : Result (Option plain.Value) Fault → Outcome
+abbrev pub outcome_of : Result (Option plain.Value) Raised → Outcome
 outcome_of (Ok v) = Answers v
 outcome_of (Err f) = Faults f
 
@@ -225,7 +233,7 @@ evaluated_of (Ends s) = record { outcome = IsSpent; written = s.written }
 -- `•args` is made before the first step
 abbrev pub with_args : (room : ℕ) → Stmts → (steps : ℕ) → Result plain.Value Fault → Evaluated
 with_args room ss steps (Ok args) = evaluated_of (line room no_lines args ss (at_start steps))
-with_args room ss steps (Err f) = record { outcome = Faults f; written = [] }
+with_args room ss steps (Err f) = record { outcome = Faults (unplaced f); written = [] }
 
 -- a program, where so many calls may be open
 abbrev pub evaluated_within : (room : ℕ) → Stmts → (words : List (List ℕ)) → (steps : ℕ) → Evaluated

@@ -21,7 +21,7 @@ use Rattle.bqn_compile.specs.Pools.{constant_of, constant_number, name_number, s
 use Rattle.bqn_compile.specs.Patterns.{stored_leaf, literal_leaf, pattern_code, patterns_code}
 use Rattle.bqn_compile.proofs.verified.Tests.{both_true}
 use Rattle.bqn_compile.proofs.verified.Growth.{Begins}
-use Rattle.bqn_compile.proofs.verified.PooledItems.{KindPooled, PatternPooled, PatternsPooled, constant_below, name_below}
+use Rattle.bqn_compile.proofs.verified.PooledItems.{KindPooled, PatternPooled, PatternsPooled, among_some, constant_below, name_below}
 use Rattle.bqn_compile.proofs.verified.SpelledItems.{pattern_size, patterns_size, more_size}
 
 -- ---- leaves
@@ -79,9 +79,9 @@ module _ (uses : List Use) (cs : List Const) (ns : List (List ℕ)) (how : How) 
   pooled_there c h = within cs code.constants (constant_number cs c) more_constants (constant_below cs c h)
 
   literal_there : (k : Kind) → KindPooled true cs ns k → leaf_constant_is_there code (literal_leaf cs (constant_of k)) ≡ true
-  literal_there (kind.Number z) h = pooled_there (const.Number z) (h refl)
-  literal_there (kind.Char z) h = pooled_there (const.Char z) (h refl)
-  literal_there (kind.Text z) h = pooled_there (const.Text z) (h refl)
+  literal_there (kind.Number z) h = pooled_there (const.Number z) (among_some cs (const.Number z) (h (const.Number z) refl))
+  literal_there (kind.Char z) h = pooled_there (const.Char z) (among_some cs (const.Char z) (h (const.Char z) refl))
+  literal_there (kind.Text z) h = pooled_there (const.Text z) (among_some cs (const.Text z) (h (const.Text z) refl))
   literal_there k h = refl
 
   mutual

@@ -27,7 +27,7 @@ use Rattle.bqn_compile.specs.Sources.{KindFits}
 use Rattle.bqn_compile.specs.Expressions.{Setting, special_instr, system_instr, leaf_instr, fields_code}
 use Rattle.bqn_compile.specs.Translation.{setting, translation}
 use Rattle.bqn_compile.proofs.verified.Tests.{both_true}
-use Rattle.bqn_compile.proofs.verified.PooledItems.{KindPooled, FieldsPooled, IsTaken, constant_below, name_below}
+use Rattle.bqn_compile.proofs.verified.PooledItems.{KindPooled, FieldsPooled, IsTaken, among_some, constant_below, name_below}
 use Rattle.bqn_compile.proofs.verified.PatternCodes.{pattern_no_literal}
 use Rattle.bqn_compile.proofs.verified.CodePasses.{Tested, is_free}
 use Rattle.bqn_compile.proofs.verified.PoolFacts.{Facts}
@@ -72,7 +72,7 @@ module _ (r : Resolution) (pools : Gathered) (ss : Stmts) where
 
   constant_pooled : (u : Kind) (c : Const) (b : Bool) → constant_of u ≡ Some c → KindPooled b pools.constants pools.names u → nat_lt (constant_number pools.constants c) (length pools.constants) ≡ true
   constant_pooled (kind.Word name r) c b e h = absurd (cc)
-  constant_pooled u c b e h = lt-ltb _ _ (constant_below pools.constants c (h (ap (λ (o : Option Const). is_some o) e)))
+  constant_pooled u c b e h = lt-ltb _ _ (constant_below pools.constants c (among_some pools.constants c (h c e)))
 
   taken_there : (c : Count) (how : How) (q : tree.Pattern) → IsTaken r.uses pools c how q → nat_lt c.patterns (length pools.patterns) ≡ true
   taken_there c how q t = lt-ltb _ _ (slice_get_within pools.patterns c.patterns _ t.there)

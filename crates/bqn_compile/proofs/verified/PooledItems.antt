@@ -1,8 +1,10 @@
 -- Once gathered, each literal, name and pattern is in the pools, and stays there.
 use Rattle.std.proofs.Common.{◌≡◌, ◌≤◌, ◌<◌, ◌||◌, ◌&&◌, ℕ, zero, suc, Bool, true, false, List, [], ◌∷◌, ◌++◌, length, slice_get, position, is_some, Option, Some, None, Ok, arith, refl, sym, ap, ◌∙◌, subst}
+use Rattle.std.specs.List.{list_any}
 use Rattle.std.proofs.lemmas.Bool.{eq-eqb}
+use Rattle.std.specs.Cmp.{int_eq_equiv}
 use Rattle.std.proofs.lemmas.List.{length-append}
-use Rattle.std.proofs.lemmas.List.Folds.{list_any-append}
+use Rattle.std.proofs.lemmas.List.Folds.{list_any-append, list_any_at}
 use Rattle.std.proofs.lemmas.List.Quantifiers.{position-Some}
 use Rattle.bqn_base.specs.declared.place.Place.{Place}
 use Rattle.bqn_syntax.specs.declared.token.Kind.{Kind}
@@ -15,10 +17,11 @@ use Rattle.bqn_syntax.specs.Scope as scope
 use Rattle.bqn_syntax.specs.Scope.{has, defines, name_of, same_name}
 use Rattle.bqn_syntax.specs.Bodies.{exports_it}
 use Rattle.bqn_code.specs.declared.constant.Const.{Const}
+use Rattle.bqn_code.specs.declared.constant.Const.TheVariants as const
 use Rattle.bqn_code.specs.Plain as code
 use Rattle.bqn_compile.specs.declared.count.Count.{Count}
 use Rattle.bqn_compile.specs.Counting.{past, in_leaves}
-use Rattle.bqn_compile.specs.Pools.{constant_of, place_among, or_none, name_number, constant_number}
+use Rattle.bqn_compile.specs.Pools.{constant_of, same_constant, place_among, or_none, name_number, constant_number}
 use Rattle.bqn_compile.specs.Patterns.{pattern_code}
 use Rattle.bqn_compile.specs.Gathering as gather
 use Rattle.bqn_compile.specs.Gathering.{Gathered, Most, and_on, if_room}
@@ -47,9 +50,18 @@ name_below names name h = number_below _ names (has_some names name h)
 
 -- ---- what is pooled
 
+-- whether a constant is among these
+abbrev pub is_among : List Const → Const → Bool
+is_among cs z = list_any (same_constant z) cs
+
+pub among_some : (cs : List Const) (z : Const) → is_among cs z ≡ true → 1 ≤ length cs
+among_some [] z h = absurd (cc)
+among_some (x ∷ cs) z h = omega arith
+
+-- a literal's constant is among these, and so is a name where it is pooled
 abbrev pub KindPooled : (named : Bool) → List Const → List (List ℕ) → Kind → Type 0
 KindPooled named cs ns (kind.Word name r) = named ≡ true → has ns name ≡ true
-KindPooled named cs ns k = is_some (constant_of k) ≡ true → 1 ≤ length cs
+KindPooled named cs ns k = (z : Const) → constant_of k ≡ Some z → is_among cs z ≡ true
 
 abbrev mutual
   pub PatternPooled : List Const → List (List ℕ) → Pattern → Type 0
@@ -101,8 +113,8 @@ pub has_more : (ns ms : List (List ℕ)) (name : List ℕ) → Begins ns ms → 
 has_more ns ms name b h =
     ap (λ (l : List (List ℕ)). has l name) b.are ∙ list_any-append (λ (other : List ℕ). same_name other name) ns b.rest ∙ ap (λ (t : Bool). t || has b.rest name) h
 
-constants_more : (cs ds : List Const) → Begins cs ds → 1 ≤ length cs → 1 ≤ length ds
-constants_more cs ds b h = omega (arith, ap (λ (l : List Const). length l) b.are, length-append cs b.rest)
+among_more : (cs ds : List Const) (z : Const) → Begins cs ds → is_among cs z ≡ true → is_among ds z ≡ true
+among_more cs ds z b h = ap (λ (l : List Const). is_among l z) b.are ∙ list_any-append (same_constant z) cs b.rest ∙ ap (λ (t : Bool). t || is_among b.rest z) h
 
 append_front : {A : Type 0} (xs ys : List A) (k : ℕ) (x : A) → slice_get xs k ≡ Some x → slice_get (xs ++ ys) k ≡ Some x
 append_front [] ys k x h = absurd (cc)
@@ -118,7 +130,7 @@ at_end (y ∷ xs) x (suc k) e = at_end xs x k (omega arith)
 module _ (cs ds : List Const) (ns ms : List (List ℕ)) (bc : Begins cs ds) (bn : Begins ns ms) where
   kind_stays : (b : Bool) (k : Kind) → KindPooled b cs ns k → KindPooled b ds ms k
   kind_stays b (kind.Word name r) h = λ e. has_more ns ms name bn (h e)
-  kind_stays b k h = λ e. constants_more cs ds bc (h e)
+  kind_stays b k h = λ z e. among_more cs ds z bc (h z e)
 
   mutual
     pub pattern_stays : (q : Pattern) → PatternPooled cs ns q → PatternPooled ds ms q
@@ -165,19 +177,34 @@ name_pooled name g h e = by (has g.names name) refl e
         ∙ ap (λ (t : Bool). t || (same_name name name || false)) p
         ∙ ap (λ (t : Bool). t || false) (same name)
 
-constant_pooled : (m : Most) (o : Option Const) (place : Place) (g h : Gathered) → gather.constant m o place g ≡ Ok h → is_some o ≡ true → 1 ≤ length h.constants
-constant_pooled m None place g h e s = absurd (cc)
-constant_pooled m (Some c) place g h e s = by (place_among g.constants c) refl e
+same_itself : (z : Const) → same_constant z z ≡ true
+same_itself (const.Number z) = int_eq_equiv.refl z
+same_itself (const.Char c) = eq-eqb c c refl
+same_itself (const.Text cs) = same cs
   where
-    placed : (cs : List Const) (n : ℕ) → place_among cs c ≡ Some n → 1 ≤ length cs
-    placed [] n p = absurd (cc)
-    placed (x ∷ xs) n p = omega arith
+    same : (cs : List ℕ) → same_name cs cs ≡ true
+    same [] = refl
+    same (c ∷ cs) = ap (λ (t : Bool). t && same_name cs cs) (eq-eqb c c refl) ∙ same cs
 
-    by : (o : Option ℕ) → place_among g.constants c ≡ o → gather.add_constant m c place o g ≡ Ok h → 1 ≤ length h.constants
-    by (Some n) p e = subst (λ (h : Gathered). 1 ≤ length h.constants) (ok_same g h e) (placed g.constants n p)
+some_is : {A : Type 0} {x y : A} → Some x ≡ Some y → x ≡ y
+some_is {x = x} q = ap (λ o. elim o [ None ↦ x | Some z ↦ z ]) q
+
+constant_pooled : (m : Most) (o : Option Const) (place : Place) (g h : Gathered) → gather.constant m o place g ≡ Ok h → (z : Const) → o ≡ Some z → is_among h.constants z ≡ true
+constant_pooled m None place g h e z s = absurd (cc)
+constant_pooled m (Some c) place g h e z s = subst (λ (z : Const). is_among h.constants z ≡ true) (some_is s) (by (place_among g.constants c) refl e)
+  where
+    placed : (cs : List Const) (n : ℕ) → place_among cs c ≡ Some n → is_among cs c ≡ true
+    placed cs n p = let at = position-Some (same_constant c) cs n c p in list_any_at (same_constant c) cs n c at.0 at.1
+
+    by : (o : Option ℕ) → place_among g.constants c ≡ o → gather.add_constant m c place o g ≡ Ok h → is_among h.constants c ≡ true
+    by (Some n) p e = subst (λ (h : Gathered). is_among h.constants c ≡ true) (ok_same g h e) (placed g.constants n p)
     by None p e =
         let q : record g { constants = g.constants ++ c ∷ [] } ≡ h = roomed _ place (λ (g : Gathered). record g { constants = g.constants ++ c ∷ [] }) g h e in
-        subst (λ (h : Gathered). 1 ≤ length h.constants) q (omega (arith, length-append g.constants (c ∷ [])))
+        subst (λ (h : Gathered). is_among h.constants c ≡ true) q (list_any-append (same_constant c) g.constants (c ∷ []) ∙ at_last (is_among g.constants c))
+      where
+        at_last : (b : Bool) → (b || (same_constant c c || false)) ≡ true
+        at_last true = refl
+        at_last false = ap (λ (t : Bool). t || false) (same_itself c)
 
 leaf_pooled : (m : Most) (uses : List scope.Use) (how : How) (k : Kind) (place : Place) (g h : Gathered) → gather.leaf m uses how k place g ≡ Ok h → KindPooled (exports_it how) h.constants h.names k
 leaf_pooled m uses how (kind.Word name r) place g h e = by (exports_it how) (o.second)

@@ -1,0 +1,44 @@
+use Rattle.std.proofs.Common.{◌∙◌, ap, map, reverse, List, ◌++◌}
+use Rattle.std.proofs.lemmas.Iterator.Adapters.{YieldsList-from_rev_slice}
+use Rattle.std.proofs.lemmas.Iterator.Consumers.{YieldsList-end}
+use Rattle.bqn_syntax.specs.Leads.{or_else}
+use Rattle.bqn_syntax.specs.Plain.{Use, Derived, use_of, derived_of, uses, deriveds}
+use Rattle.bqn_compile.specs.Expressions.{parts_read}
+use Rattle.bqn_compile.specs.Placing.{uses_places, deriveds_places}
+use Rattle.bqn_compile.proofs.Yielded.{all-yielded}
+use Rattle.bqn_compile.proofs.Placings.{on_ok, unstarted-Apply, unstarted-Assign, unstarted-Modify}
+use Rattle.bqn_compile.proofs.placing.+placing.Goals as goal
+
+pub deriveds-returns-clause-places : goal.deriveds-returns-clause-places
+deriveds-returns-clause-places t c =
+    c.loop-d.invariant.places
+    ∙ ap (λ (ds : List Derived). c.args.out.now.items ++ deriveds_places c.args.lead (deriveds ds))
+    (all-yielded derived_of c.args.all.now c.loop-d.yielded (YieldsList-end (YieldsList-from_rev_slice c.args.all.now cc) c.loop-d.yielded _ c.loop-d.yielded_by _ _ c.in-None.is c.next.ensures.steps).0)
+
+pub deriveds-returns-clause-read : goal.deriveds-returns-clause-read
+deriveds-returns-clause-read t c =
+    c.loop-d.invariant.read
+    ∙ ap (λ (ds : List Derived). parts_read (deriveds ds))
+    (all-yielded derived_of c.args.all.now c.loop-d.yielded (YieldsList-end (YieldsList-from_rev_slice c.args.all.now cc) c.loop-d.yielded _ c.loop-d.yielded_by _ _ c.in-None.is c.next.ensures.steps).0)
+
+pub mod_uses-returns : goal.mod_uses-returns
+mod_uses-returns t c =
+    c.loop-u.invariant
+    ∙ ap (λ (us : List Use). c.args.out.now.items ++ uses_places c.args.lead (uses us))
+    (all-yielded use_of c.args.all.now c.loop-u.yielded (YieldsList-end (YieldsList-from_rev_slice c.args.all.now cc) c.loop-u.yielded _ c.loop-u.yielded_by _ _ c.in-None.is c.next.ensures.steps).0)
+
+pub unstarted-returns-in_ok-push-in-Modify-3 : goal.unstarted-returns-in_ok-push-in-Modify-3
+unstarted-returns-in_ok-push-in-Modify-3 t c =
+    on_ok c.steps.result _ _ _ c.steps.ensures
+    (unstarted-Modify c.args.lead c.args.all.now c.in-Some.rest.now c.in-Some.first.now c.args.out.now.items c.push-in-Modify.new.out.items c.in-Modify.target c.in-Modify.function c.derived.new.out.items c.push-in-Modify-2.new.out.items c.push-in-Modify-3.new.out.items c.or_else.result
+    c.in-Some.ensures.cases.0 c.in-Modify.is c.in_ok-push-in-Modify.ensures c.in_ok-derived-in-Modify.ensures (c.or_else.ensures ∙ ap (or_else c.args.lead) c.derived-in-Modify.ensures) c.in_ok-push-in-Modify-2.ensures c.in_ok-push-in-Modify-3.ensures)
+
+pub unstarted-returns-in_ok-push-in-Apply : goal.unstarted-returns-in_ok-push-in-Apply
+unstarted-returns-in_ok-push-in-Apply t c =
+    on_ok c.steps-in-Apply.result _ _ _ c.steps-in-Apply.ensures
+    (unstarted-Apply c.args.lead c.args.all.now c.in-Some.rest.now c.in-Some.first.now c.args.out.now.items c.push-in-Apply.new.out.items c.in-Apply.function c.in-Apply.left c.in-Some.ensures.cases.0 c.in-Apply.is c.in_ok-push-in-Apply.ensures)
+
+pub unstarted-returns-in_ok-push-in-Assign : goal.unstarted-returns-in_ok-push-in-Assign
+unstarted-returns-in_ok-push-in-Assign t c =
+    on_ok c.steps-in-Assign.result _ _ _ c.steps-in-Assign.ensures
+    (unstarted-Assign c.args.lead c.args.all.now c.in-Some.rest.now c.in-Some.first.now c.args.out.now.items c.push-in-Assign.new.out.items c.in-Assign.target c.in-Assign.arrow c.in-Some.ensures.cases.0 c.in-Assign.is c.in_ok-push-in-Assign.ensures)
