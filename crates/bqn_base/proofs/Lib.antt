@@ -1,14 +1,3 @@
 pub mod Fits
-pub mod Matching
-pub mod Order
-pub mod Ties
-pub mod Levels
-pub mod Proper
-pub mod Prototypes
-pub mod Making
-pub mod Questioning
 pub mod Roots
 mod Samples
-mod ValueSamples
-mod CallSamples
-pub mod Stamping

@@ -16,15 +16,15 @@ use Rattle.bqn_io.specs.Devices.{Rose, Told, Untold, Missing, Kept, Fetches, IsK
 use Rattle.bqn_io.specs.Writing.{Adds, AddsPart, Breaks}
 use Rattle.bqn_io.proofs.Writing.{added-nil}
 use Rattle.bqn_syntax.specs.declared.token.Token.{Token}
-use Rattle.bqn_syntax.specs.declared.function.Function.{Function}
-use Rattle.bqn_syntax.specs.Tree.{Part, Number, Name, Paren, Expr, Value as Alone, Apply1, Apply2, Stmt}
-use Rattle.bqn_syntax.specs.Text.{text_of, without_returns}
-use Rattle.bqn_syntax.specs.Tokens.{tokens_of_text, tokens_of_source}
-use Rattle.bqn_syntax.specs.Plain.{Stmts}
-use Rattle.bqn_syntax.specs.Parsing.{parsed}
-use Rattle.bqn_syntax.specs.Bodies.{Resolution, resolution}
-use Rattle.bqn_syntax.specs.Form.{form_of}
-use Rattle.bqn_syntax.specs.Evaluation.{State, Res, Gives as Value, Faults, Spends, M, then_do, answered, answer_of, output_of, wrote, call, known_value, stored, eval_part, eval_expr, eval_statements, evaluated}
+use Rattle.bqn_machine.specs.declared.function.Function.{Function}
+use Rattle.bqn_machine.specs.Tree.{Part, Number, Name, Paren, Expr, Value as Alone, Apply1, Apply2, Stmt}
+use Rattle.bqn_syntax.specs.text.Text.{text_of, without_returns}
+use Rattle.bqn_syntax.specs.text.Tokens.{tokens_of_text, tokens_of_source}
+use Rattle.bqn_syntax.specs.grammar.Trees.{Stmts}
+use Rattle.bqn_syntax.specs.grammar.Parsing.{parsed}
+use Rattle.bqn_syntax.specs.scope.Bodies.{Resolution, resolution}
+use Rattle.bqn_machine.specs.Form.{form_of}
+use Rattle.bqn_machine.specs.Evaluation.{State, Res, Gives as Value, Faults, Spends, M, then_do, answered, answer_of, output_of, wrote, call, known_value, stored, eval_part, eval_expr, eval_statements, evaluated}
 use Rattle.std.specs.Prelude.{ℤ}
 use Rattle.bqn_cli.specs.declared.halted.Halted.{Halted}
 use Rattle.bqn_cli.specs.declared.halted.Halted.TheVariants as halted

@@ -11,13 +11,13 @@ use Rattle.bqn_base.specs.Printed.{error_line}
 use Rattle.bqn_io.specs.Writing.{Adds, AddsPart, Breaks}
 use Rattle.bqn_io.proofs.Writing.{adds-nothing, adds-then, adds-then-part, adds-then-breaks}
 use Rattle.bqn_syntax.specs.declared.token.Token.{Token}
-use Rattle.bqn_syntax.specs.Tree.{Stmt}
+use Rattle.bqn_machine.specs.Tree.{Stmt}
 use Rattle.bqn_syntax.specs.declared.tree.Tree.{Tree}
-use Rattle.bqn_syntax.specs.Plain.{Stmts, tree_of}
-use Rattle.bqn_syntax.specs.Parsing.{parsed}
-use Rattle.bqn_syntax.specs.Bodies.{Resolution, resolution}
-use Rattle.bqn_syntax.specs.Form.{form_of}
-use Rattle.bqn_syntax.specs.Evaluation.{State, Gives as Value, Faults, Spends}
+use Rattle.bqn_syntax.specs.grammar.Trees.{Stmts, tree_of}
+use Rattle.bqn_syntax.specs.grammar.Parsing.{parsed}
+use Rattle.bqn_syntax.specs.scope.Bodies.{Resolution, resolution}
+use Rattle.bqn_machine.specs.Form.{form_of}
+use Rattle.bqn_machine.specs.Evaluation.{State, Gives as Value, Faults, Spends}
 use Rattle.bqn_machine.specs.declared.code.Instr.{Instr}
 use Rattle.bqn_machine.specs.declared.end.End.TheVariants as end
 use Rattle.bqn_machine.specs.declared.error.CompileError.TheVariants as compile

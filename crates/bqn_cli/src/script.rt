@@ -2,9 +2,9 @@
 
 ghost use Rattle.std.specs.Prelude.{◌≡◌, ◌≤◌, ◌^◌, IsSome, MatchResult, encode_utf8_all, length};
 ghost use Rattle.bqn_io.specs.Writing.{Adds, Breaks};
-ghost use Rattle.bqn_syntax.specs.Form.{form_of};
-ghost use Rattle.bqn_syntax.specs.Parsing.{parsed};
-ghost use Rattle.bqn_syntax.specs.Plain.{tree_of};
+ghost use Rattle.bqn_machine.specs.Form.{form_of};
+ghost use Rattle.bqn_syntax.specs.grammar.Parsing.{parsed};
+ghost use Rattle.bqn_syntax.specs.grammar.Trees.{tree_of};
 ghost use Rattle.bqn_machine.specs.Execution.{executed};
 ghost use Rattle.bqn_compile.specs.Shown.{resolution_shown};
 ghost use Rattle.bqn_compile.specs.Translation.{translated};

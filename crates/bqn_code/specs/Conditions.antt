@@ -3,16 +3,15 @@ use Rattle.std.specs.Prelude.{ℕ, zero, suc, ◌+◌, ◌^◌, max, nat_eq, nat
 use Rattle.std.specs.List.{list_all, list_any}
 use Rattle.bqn_syntax.specs.declared.tree.Class.{Class}
 use Rattle.bqn_syntax.specs.declared.tree.Class.TheVariants as class
-use Rattle.bqn_syntax.specs.Deriving.{waits}
+use Rattle.bqn_syntax.specs.grammar.Classes.{waits}
 use Rattle.bqn_code.specs.declared.constant.Const.{Const}
 use Rattle.bqn_code.specs.declared.constant.Const.TheVariants as const
 use Rattle.bqn_code.specs.declared.instr.Instr.{Instr}
 use Rattle.bqn_code.specs.declared.instr.Instr.TheVariants as instr
 use Rattle.bqn_code.specs.declared.code.Body.{Body}
 use Rattle.bqn_code.specs.declared.code.Block.{Block}
-use Rattle.bqn_code.specs.Plain.{Pattern, Define, Change, ListPattern, Literal, Patterns, no_patterns, and_patterns, Code}
+use Rattle.bqn_code.specs.Plain.{Pattern, Define, Change, ListPattern, Literal, Patterns, no_patterns, and_patterns, parts, Code}
 use Rattle.bqn_code.specs.Numbering.{same_name}
-use Rattle.bqn_code.specs.Patterns.{parts}
 use Rattle.bqn_code.specs.Heights.{is_empty, is_balanced}
 use Rattle.bqn_code.specs.Standing.{Standing, standing, every_body, every_instr, slots_up}
 

@@ -1,14 +1,7 @@
 pub mod Plain
-pub mod Levels
-pub mod States
+pub mod PatternEquations
 pub mod Numbering
-pub mod Variables
-pub mod Patterns
-pub mod Operands
-pub mod Execution
-pub mod Programs
 pub mod Heights
 pub mod Standing
 pub mod Conditions
 pub mod Verified
-pub mod Sureness

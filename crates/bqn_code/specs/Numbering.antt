@@ -2,7 +2,7 @@
 -- programs and the top bodies of all codes have the number 0, since their variables are shared. All of it is this project's own.
 use Rattle.std.specs.Prelude.{ℕ, zero, suc, ◌+◌, ◌-◌, Bool, true, false, List, [], ◌∷◌, ◌++◌, length, map, slice_get, Option, Some, None}
 use Rattle.bqn_syntax.specs.declared.tree.Class.{Class}
-use Rattle.bqn_syntax.specs.Scope.{same_name as same_spelling}
+use Rattle.bqn_syntax.specs.scope.Scope.{same_name as same_spelling}
 use Rattle.bqn_code.specs.declared.code.Body.{Body}
 use Rattle.bqn_code.specs.declared.code.Block.{Block}
 use Rattle.bqn_code.specs.Plain.{Code}

@@ -1,5 +1,5 @@
 -- Code as plain lists, and what a code of the program is as such data: the same, level by level.
-use Rattle.std.specs.Prelude.{ℕ, Bool, List, [], ◌∷◌, map}
+use Rattle.std.specs.Prelude.{ℕ, suc, Bool, List, [], ◌∷◌, map}
 use Rattle.bqn_code.specs.declared.constant.Const.{Const}
 use Rattle.bqn_code.specs.declared.pattern.PatternCode.{PatternCode, PatternCode-F, fold-PatternCode}
 use Rattle.bqn_code.specs.declared.code.Block.{Block}
@@ -21,6 +21,11 @@ mutual
 abbrev pub patterns : List Pattern → Patterns
 patterns [] = no_patterns
 patterns (p ∷ ps) = and_patterns p (patterns ps)
+
+-- how many there are
+abbrev pub parts : Patterns → ℕ
+parts no_patterns = 0
+parts (and_patterns p ps) = suc (parts ps)
 
 -- whether instructions have places; the spellings of the names, the constants, the patterns and the blocks, by their numbers
 pub record Code : Type 0 where

@@ -4,12 +4,12 @@ use Rattle.std.proofs.lemmas.List.{append-nil, reverse-append}
 use Rattle.bqn_base.specs.declared.place.Place.{Place}
 use Rattle.bqn_syntax.specs.declared.tree.Class.{Class}
 use Rattle.bqn_syntax.specs.declared.tree.Class.TheVariants as class
-use Rattle.bqn_syntax.specs.Plain.{Header, Stmts, block, BodyTree, body, Bodies, no_bodies, and_bodies}
-use Rattle.bqn_syntax.specs.Blocks.{plain_in}
-use Rattle.bqn_syntax.specs.Classes.{Both, body_calls, has_predicate}
-use Rattle.bqn_syntax.specs.Counting.{how_many}
-use Rattle.bqn_syntax.specs.Exporting.{stmts_export}
-use Rattle.bqn_syntax.specs.Bodies.{BodyNames}
+use Rattle.bqn_syntax.specs.grammar.Trees.{Header, Stmts, block, BodyTree, body, Bodies, no_bodies, and_bodies}
+use Rattle.bqn_syntax.specs.blocks.Blocks.{plain_in}
+use Rattle.bqn_syntax.specs.grammar.Classes.{Both, body_calls, has_predicate}
+use Rattle.bqn_syntax.specs.blocks.Counting.{how_many}
+use Rattle.bqn_syntax.specs.blocks.Exporting.{stmts_export}
+use Rattle.bqn_syntax.specs.scope.Bodies.{BodyNames}
 use Rattle.bqn_code.specs.declared.instr.Instr.{Instr}
 use Rattle.bqn_code.specs.declared.code.Body.{Body}
 use Rattle.bqn_code.specs.declared.code.Block.{Block}

@@ -3,8 +3,8 @@ use Rattle.std.proofs.Common.{◌≡◌, ◌++◌, List, [], ◌∷◌, map, Res
 use Rattle.std.specs.List.{push}
 use Rattle.bqn_base.specs.declared.refusal.Refusal.{Refusal}
 use Rattle.bqn_syntax.specs.declared.tree.Step.{Step as CodeStep}
-use Rattle.bqn_syntax.specs.Plain.{steps as plain_steps, step_of}
-use Rattle.bqn_syntax.specs.Scope.{Use}
+use Rattle.bqn_syntax.specs.grammar.Trees.{steps as plain_steps, step_of}
+use Rattle.bqn_syntax.specs.scope.Scope.{Use}
 use Rattle.bqn_compile.specs.Gathering.{Most, Gathered, Gathers, done, and_on, step, steps}
 
 and-done : (r : Result Gathered Refusal) → r ≡ and_on r done

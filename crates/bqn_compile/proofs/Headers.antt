@@ -4,12 +4,12 @@ use Rattle.std.proofs.lemmas.List.{append-nil}
 use Rattle.bqn_syntax.specs.declared.token.Kind.{Kind}
 use Rattle.bqn_syntax.specs.declared.token.Kind.TheVariants as kind
 use Rattle.bqn_syntax.specs.declared.token.Token.{Token}
-use Rattle.bqn_syntax.specs.Plain.{Pattern, Name, Skip, Literal, ListPattern, StrandPattern, Header}
+use Rattle.bqn_syntax.specs.grammar.Trees.{Pattern, Name, Skip, Literal, ListPattern, StrandPattern, Header}
 use Rattle.bqn_code.specs.declared.instr.Instr.{Instr}
 use Rattle.bqn_code.specs.declared.instr.Instr.TheVariants as i
 use Rattle.bqn_compile.specs.declared.count.Count.{Count}
 use Rattle.bqn_compile.specs.Counting.{past, in_argument, in_operand, in_token, in_header}
-use Rattle.bqn_syntax.specs.Scope.{Use}
+use Rattle.bqn_syntax.specs.scope.Scope.{Use}
 use Rattle.bqn_compile.specs.Pools.{seen_at}
 use Rattle.bqn_compile.specs.Expressions.{Setting}
 use Rattle.bqn_compile.specs.Bodies.{argument_code, named_argument_code, name_code, operand_code, own_instr, header_code}

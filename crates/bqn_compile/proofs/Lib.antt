@@ -16,5 +16,3 @@ pub mod Sources
 pub mod Placings
 mod Samples
 mod BodySamples
-mod RunSamples
-mod PlaceSamples

@@ -5,11 +5,11 @@ use Rattle.bqn_syntax.specs.declared.tree.Expr.{Expr as CodeExpr}
 use Rattle.bqn_syntax.specs.declared.tree.Part.{Part as CodePart}
 use Rattle.bqn_syntax.specs.declared.tree.Stmt.{Stmt as CodeStmt}
 use Rattle.bqn_syntax.specs.declared.tree.BodyTree.{BodyTree as CodeBody}
-use Rattle.bqn_syntax.specs.Plain.{Header, Stmts, BodyTree, body, exprs, parts, deriveds, stmts, bodies, expr_of, part_of, derived_of, stmt_of, body_of}
-use Rattle.bqn_syntax.specs.Blocks.{and_plain}
-use Rattle.bqn_syntax.specs.Classes.{body_calls, has_predicate}
-use Rattle.bqn_syntax.specs.Counting.{how_many}
-use Rattle.bqn_syntax.specs.Bodies.{BodyNames}
+use Rattle.bqn_syntax.specs.grammar.Trees.{Header, Stmts, BodyTree, body, exprs, parts, deriveds, stmts, bodies, expr_of, part_of, derived_of, stmt_of, body_of}
+use Rattle.bqn_syntax.specs.blocks.Blocks.{and_plain}
+use Rattle.bqn_syntax.specs.grammar.Classes.{body_calls, has_predicate}
+use Rattle.bqn_syntax.specs.blocks.Counting.{how_many}
+use Rattle.bqn_syntax.specs.scope.Bodies.{BodyNames}
 use Rattle.bqn_code.specs.declared.code.Body.{Body}
 use Rattle.bqn_compile.specs.declared.read.Read.{Read}
 use Rattle.bqn_compile.specs.Counting.{past, in_body}

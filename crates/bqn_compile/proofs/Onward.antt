@@ -2,8 +2,8 @@
 use Rattle.std.proofs.Common.{◌≡◌, ℕ, Bool, false, ◌++◌, List, [], ◌∷◌, length, take, drop, reverse, refl, sym, ap, ◌∙◌, append_assoc}
 use Rattle.std.proofs.lemmas.List.{append-nil, reverse-append, reverse-reverse}
 use Rattle.std.proofs.Math.Seq.{take-append_seam, drop-append_seam}
-use Rattle.bqn_syntax.specs.Plain.{Expr, Exprs, no_exprs, and_exprs, Parts, no_parts, and_parts, Stmt, Eval, Predicate, Export, Stmts, no_stmts, and_stmts, Pattern}
-use Rattle.bqn_syntax.specs.Bodies.{BodyNames}
+use Rattle.bqn_syntax.specs.grammar.Trees.{Expr, Exprs, no_exprs, and_exprs, Parts, no_parts, and_parts, Stmt, Eval, Predicate, Export, Stmts, no_stmts, and_stmts, Pattern}
+use Rattle.bqn_syntax.specs.scope.Bodies.{BodyNames}
 use Rattle.bqn_code.specs.declared.instr.Instr.{Instr}
 use Rattle.bqn_code.specs.declared.instr.Instr.TheVariants as i
 use Rattle.bqn_code.specs.declared.code.Block.{Block}

@@ -9,9 +9,9 @@ use Rattle.bqn_syntax.specs.declared.tree.Part.{Part as CodePart}
 use Rattle.bqn_syntax.specs.declared.tree.Derived.{Derived as CodeDerived}
 use Rattle.bqn_syntax.specs.declared.tree.Step.{Step as CodeStep}
 use Rattle.bqn_syntax.specs.declared.tree.Step.TheVariants as step
-use Rattle.bqn_syntax.specs.Leads.{or_else, derived_lead}
-use Rattle.bqn_syntax.specs.Plain.{Value, none, Step, Apply, Assign, Modify, Steps, and_steps, maybe_part, steps, step_of, part_of, derived_of, pattern_of}
-use Rattle.bqn_syntax.specs.Levels.{step-Apply, step-Assign, step-Modify}
+use Rattle.bqn_syntax.specs.blocks.Leads.{or_else, derived_lead}
+use Rattle.bqn_syntax.specs.grammar.Trees.{Value, none, Step, Apply, Assign, Modify, Steps, and_steps, maybe_part, steps, step_of, part_of, derived_of, pattern_of}
+use Rattle.bqn_syntax.specs.grammar.TreeEquations.{step-Apply, step-Assign, step-Modify}
 use Rattle.bqn_compile.specs.Placing.{expr_places, steps_places, derived_places}
 
 pub ruleset placing_laws = (append_assoc, append-nil)

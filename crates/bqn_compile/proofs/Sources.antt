@@ -3,10 +3,10 @@ use Rattle.std.proofs.Common.{ℕ, false, pos, List, [], ◌∷◌, map, Result,
 use Rattle.bqn_base.specs.declared.refusal.Refusal.{Refusal}
 use Rattle.bqn_syntax.specs.declared.tree.Class.{Class}
 use Rattle.bqn_syntax.specs.declared.tree.Class.TheVariants as class
-use Rattle.bqn_syntax.specs.Plain.{Stmts}
-use Rattle.bqn_syntax.specs.Tokens.{tokens_of_text}
-use Rattle.bqn_syntax.specs.Parsing.{parsed}
-use Rattle.bqn_syntax.specs.Bodies.{Resolution, resolution}
+use Rattle.bqn_syntax.specs.grammar.Trees.{Stmts}
+use Rattle.bqn_syntax.specs.text.Tokens.{tokens_of_text}
+use Rattle.bqn_syntax.specs.grammar.Parsing.{parsed}
+use Rattle.bqn_syntax.specs.scope.Bodies.{Resolution, resolution}
 use Rattle.bqn_code.specs.declared.constant.Const.{Const}
 use Rattle.bqn_code.specs.declared.constant.Const.TheVariants as const
 use Rattle.bqn_code.specs.declared.instr.Instr.{Instr}

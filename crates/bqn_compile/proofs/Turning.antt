@@ -1,7 +1,7 @@
 -- Elements, lists and strands: what is pushed backward is turned round.
 use Rattle.std.proofs.Common.{◌≡◌, ℕ, List, length, ap, ◌∙◌}
-use Rattle.bqn_syntax.specs.Plain.{Expr, Part, Exprs, Parts}
-use Rattle.bqn_syntax.specs.Bodies.{BodyNames}
+use Rattle.bqn_syntax.specs.grammar.Trees.{Expr, Part, Exprs, Parts}
+use Rattle.bqn_syntax.specs.scope.Bodies.{BodyNames}
 use Rattle.bqn_code.specs.declared.instr.Instr.TheVariants as i
 use Rattle.bqn_compile.specs.declared.walk.Walk.{Walk}
 use Rattle.bqn_compile.specs.Counting.{in_expr, in_part, in_exprs, in_parts}

@@ -3,8 +3,8 @@ use Rattle.std.proofs.Common.{◌≡◌, ℕ, ◌≤◌, ◌++◌, List, [], ◌
 use Rattle.std.proofs.lemmas.List.{reverse-append, append-nil, take_all, drop_all}
 use Rattle.bqn_syntax.specs.declared.token.Token.{Token}
 use Rattle.bqn_syntax.specs.declared.tree.Derived.{Derived as CodeDerived}
-use Rattle.bqn_syntax.specs.Plain.{Use, uses, deriveds, derived_of}
-use Rattle.bqn_syntax.specs.Scope.{name_of}
+use Rattle.bqn_syntax.specs.grammar.Trees.{Use, uses, deriveds, derived_of}
+use Rattle.bqn_syntax.specs.scope.Scope.{name_of}
 use Rattle.bqn_code.specs.declared.instr.Instr.{Instr}
 use Rattle.bqn_code.specs.declared.instr.Instr.TheVariants as instr
 use Rattle.bqn_compile.specs.Expressions.{fields_code, derives, derive_instr, and_one, parts_read}

@@ -5,13 +5,13 @@ use Rattle.bqn_base.specs.declared.role.Role.TheVariants as role
 use Rattle.bqn_syntax.specs.declared.token.Kind.{Kind}
 use Rattle.bqn_syntax.specs.declared.token.Kind.TheVariants as kind
 use Rattle.bqn_syntax.specs.declared.token.Token.{Token}
-use Rattle.bqn_syntax.specs.Plain.{Pattern, Name, Header, Eval, Predicate, Export, BodyTree, body, Stmts, no_stmts, and_stmts}
-use Rattle.bqn_syntax.specs.Classes.{Calls, Monadic, Dyadic, Both, body_calls, has_predicate}
-use Rattle.bqn_syntax.specs.Exporting.{stmts_export}
-use Rattle.bqn_syntax.specs.Leads.{or_else, pattern_lead, stmt_lead, header_lead, at_start}
-use Rattle.bqn_syntax.specs.Scope.{Seen}
-use Rattle.bqn_syntax.specs.Scope as scope
-use Rattle.bqn_syntax.specs.Bodies.{BodyNames}
+use Rattle.bqn_syntax.specs.grammar.Trees.{Pattern, Name, Header, Eval, Predicate, Export, BodyTree, body, Stmts, no_stmts, and_stmts}
+use Rattle.bqn_syntax.specs.grammar.Classes.{Calls, Monadic, Dyadic, Both, body_calls, has_predicate}
+use Rattle.bqn_syntax.specs.blocks.Exporting.{stmts_export}
+use Rattle.bqn_syntax.specs.blocks.Leads.{or_else, pattern_lead, stmt_lead, header_lead, at_start}
+use Rattle.bqn_syntax.specs.scope.Scope.{Seen}
+use Rattle.bqn_syntax.specs.scope.Scope as scope
+use Rattle.bqn_syntax.specs.scope.Bodies.{BodyNames}
 use Rattle.bqn_code.specs.declared.instr.Instr.{Instr}
 use Rattle.bqn_code.specs.declared.instr.Instr.TheVariants as i
 use Rattle.bqn_code.specs.declared.code.Body.{Body}

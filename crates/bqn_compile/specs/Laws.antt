@@ -1,9 +1,9 @@
 -- What holds of the code of a tree: this project's own.
 use Rattle.std.specs.Prelude.{◌≡◌, ◌≤◌, ℕ, ◌+◌, suc, List, length, Ok}
 use Rattle.bqn_syntax.specs.declared.token.Token.{Token}
-use Rattle.bqn_syntax.specs.Plain.{Stmts}
-use Rattle.bqn_syntax.specs.Spells.{Spells}
-use Rattle.bqn_syntax.specs.Bodies.{Resolution}
+use Rattle.bqn_syntax.specs.grammar.Trees.{Stmts}
+use Rattle.bqn_syntax.specs.grammar.Spells.{Spells}
+use Rattle.bqn_syntax.specs.scope.Bodies.{Resolution}
 use Rattle.bqn_code.specs.Plain.{Code}
 use Rattle.bqn_code.specs.Verified.{Verified}
 use Rattle.bqn_compile.specs.Sources.{FromSource}

@@ -1,8 +1,8 @@
 -- The patterns of a code.
 use Rattle.std.specs.Prelude.{ℕ, ◌+◌, List, [], ◌∷◌, Option, Some, None}
-use Rattle.bqn_syntax.specs.Plain as tree
-use Rattle.bqn_syntax.specs.Order.{How, Changes}
-use Rattle.bqn_syntax.specs.Scope.{Seen, Use, name_of}
+use Rattle.bqn_syntax.specs.grammar.Trees as tree
+use Rattle.bqn_syntax.specs.scope.Order.{How, Changes}
+use Rattle.bqn_syntax.specs.scope.Scope.{Seen, Use, name_of}
 use Rattle.bqn_code.specs.declared.constant.Const.{Const}
 use Rattle.bqn_code.specs.Plain.{Pattern, Skip, Define, Change, ListPattern, Literal, patterns}
 use Rattle.bqn_compile.specs.Counting.{in_leaves}

@@ -4,7 +4,7 @@ use Rattle.std.specs.Ordering.{int_eq}
 use Rattle.std.specs.Cmp.Lexicographic.{pointwise}
 use Rattle.bqn_syntax.specs.declared.token.Kind.{Kind}
 use Rattle.bqn_syntax.specs.declared.token.Kind.TheVariants as kind
-use Rattle.bqn_syntax.specs.Scope.{Seen, Use, place_of}
+use Rattle.bqn_syntax.specs.scope.Scope.{Seen, Use, place_of}
 use Rattle.bqn_code.specs.declared.constant.Const.{Const}
 use Rattle.bqn_code.specs.declared.constant.Const.TheVariants as const
 

@@ -5,12 +5,12 @@ use Rattle.bqn_scope.specs.declared.used.Use.{Use}
 use Rattle.bqn_scope.specs.Scopes.{use_shown}
 use Rattle.bqn_scope.specs.Resolving.{resolution_of}
 use Rattle.bqn_scope.specs.declared.resolving.Resolved.{Resolved}
-use Rattle.bqn_syntax.specs.Bodies.{Resolution}
+use Rattle.bqn_syntax.specs.scope.Bodies.{Resolution}
 use Rattle.bqn_code.specs.declared.constant.Const.{Const}
 use Rattle.bqn_code.specs.declared.constant.Const.TheVariants as const
 use Rattle.bqn_code.specs.declared.code.Code.{Code as CodeCode}
 use Rattle.bqn_code.specs.Plain.{Code, pattern_of, code_of}
-use Rattle.bqn_syntax.specs.Scope.{Seen}
+use Rattle.bqn_syntax.specs.scope.Scope.{Seen}
 use Rattle.bqn_compile.specs.declared.leaf.Slot.{Slot}
 use Rattle.bqn_compile.specs.declared.key.Key.{Key}
 use Rattle.bqn_compile.specs.declared.key.Key.TheVariants as key

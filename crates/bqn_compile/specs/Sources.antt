@@ -4,10 +4,10 @@ use Rattle.std.specs.List.{All}
 use Rattle.bqn_syntax.specs.declared.token.Kind.{Kind}
 use Rattle.bqn_syntax.specs.declared.token.Kind.TheVariants as kind
 use Rattle.bqn_syntax.specs.declared.token.Token.{Token}
-use Rattle.bqn_syntax.specs.Plain.{Stmts}
-use Rattle.bqn_syntax.specs.Spells.{Spells}
-use Rattle.bqn_syntax.specs.Well.{Well}
-use Rattle.bqn_syntax.specs.Bodies.{Resolution, resolution}
+use Rattle.bqn_syntax.specs.grammar.Trees.{Stmts}
+use Rattle.bqn_syntax.specs.grammar.Spells.{Spells}
+use Rattle.bqn_syntax.specs.grammar.Well.{Well}
+use Rattle.bqn_syntax.specs.scope.Bodies.{Resolution, resolution}
 use Rattle.bqn_code.specs.Conditions.{begins_with_letter}
 
 -- a name begins with a letter, names and texts are not long, and primitives have codes

@@ -2,10 +2,10 @@
 use Rattle.std.specs.Prelude.{true, List, [], ◌∷◌, slice_get, None, Result, Ok, Err}
 use Rattle.bqn_base.specs.declared.refusal.Refusal.{Refusal}
 use Rattle.bqn_syntax.specs.declared.tree.Class.TheVariants as class
-use Rattle.bqn_syntax.specs.Plain.{Stmts, body}
-use Rattle.bqn_syntax.specs.Classes.{Both}
-use Rattle.bqn_syntax.specs.Scope as scope
-use Rattle.bqn_syntax.specs.Bodies.{BodyNames, Resolution}
+use Rattle.bqn_syntax.specs.grammar.Trees.{Stmts, body}
+use Rattle.bqn_syntax.specs.grammar.Classes.{Both}
+use Rattle.bqn_syntax.specs.scope.Scope as scope
+use Rattle.bqn_syntax.specs.scope.Bodies.{BodyNames, Resolution}
 use Rattle.bqn_code.specs.declared.code.Block.{Block}
 use Rattle.bqn_code.specs.Plain.{Code}
 use Rattle.bqn_compile.specs.declared.count.Count.{Count}

@@ -1,7 +1,7 @@
 //! The blocks of a program, in the text order of their opening braces.
 
 ghost use Rattle.std.specs.Prelude.{◌≡◌, ◌∷◌, IfOk, map};
-ghost use Rattle.bqn_syntax.specs.Plain.{stmt_of, stmts as plain_stmts};
+ghost use Rattle.bqn_syntax.specs.grammar.Trees.{stmt_of, stmts as plain_stmts};
 ghost use Rattle.bqn_scope.specs.Numbering.{body_shown};
 ghost use Rattle.bqn_compile.specs.Blocks.{stmts_blocks};
 ghost use Rattle.bqn_compile.specs.Translation.{at_start, program};

@@ -2,9 +2,9 @@
 
 ghost use Rattle.std.specs.Prelude.{◌≡◌, IfOk, map};
 ghost use Rattle.std.specs.Option.{option_map};
-ghost use Rattle.bqn_syntax.specs.Blocks.{and_plain as and_plain_in, plain_in};
-ghost use Rattle.bqn_syntax.specs.Classes.{body_calls, has_predicate as has_predicate_in, is_predicate as is_predicate_in, is_plain as is_plain_in, marks_of};
-ghost use Rattle.bqn_syntax.specs.Plain.{body_of, bodies as plain_bodies, header_of, stmt_of, stmts as plain_stmts};
+ghost use Rattle.bqn_syntax.specs.blocks.Blocks.{and_plain as and_plain_in, plain_in};
+ghost use Rattle.bqn_syntax.specs.grammar.Classes.{body_calls, has_predicate as has_predicate_in, is_predicate as is_predicate_in, is_plain as is_plain_in, marks_of};
+ghost use Rattle.bqn_syntax.specs.grammar.Trees.{body_of, bodies as plain_bodies, header_of, stmt_of, stmts as plain_stmts};
 ghost use Rattle.bqn_compile.specs.Bodies.{kind_code};
 
 use crate::no_memory::NoMemory;

@@ -1,5 +1,5 @@
 ghost use Rattle.std.specs.Prelude.{◌≡◌, IfOk};
-ghost use Rattle.bqn_syntax.specs.Plain.{tree_of};
+ghost use Rattle.bqn_syntax.specs.grammar.Trees.{tree_of};
 ghost use Rattle.bqn_code.specs.Plain.{code_of};
 ghost use Rattle.bqn_compile.specs.Laws.{HasFew, IsVerified};
 ghost use Rattle.bqn_compile.specs.Shown.{CompilesTo, constants_shown, key_shown, resolution_shown};

@@ -2,7 +2,7 @@
 
 ghost use Rattle.std.specs.Prelude.{◌≡◌, OnOk};
 ghost use Rattle.std.specs.Option.{option_map};
-ghost use Rattle.bqn_syntax.specs.Plain.{header_of, pattern_of};
+ghost use Rattle.bqn_syntax.specs.grammar.Trees.{header_of, pattern_of};
 ghost use Rattle.bqn_compile.specs.Bodies.{argument_code, name_code, own_instr as own_in};
 ghost use Rattle.bqn_compile.specs.Pools.{seen_at};
 ghost use Rattle.bqn_compile.specs.Walking.{append, argument_behind, asks, header_behind, name_behind, onward, operand_behind, setting_of};
@@ -30,7 +30,7 @@ fn asks_for(q: &Pattern) -> bool
 }
 
 /// Pushes an argument and matches it by the pattern with this number.
-#[tactic(auto, using(bqn_syntax::specs::Levels::levels, crate::proofs::Headers::header_laws))]
+#[tactic(auto, using(bqn_syntax::specs::grammar::TreeEquations::levels, crate::proofs::Headers::header_laws))]
 fn matched(i: Instr, number: u32, q: &Option<Pattern>, out: &mut Walk) -> Result<(), NoMemory>
     ensures { OnOk result (onward out.new ≡ append (argument_code i number (option_map pattern_of q.now)) (onward out.old)) }
 {

@@ -1,7 +1,7 @@
 //! The instructions of single tokens.
 
 ghost use Rattle.std.specs.Prelude.{◌≡◌, IfOk, Some, map, position};
-ghost use Rattle.bqn_syntax.specs.Scope.{same_name, system_names};
+ghost use Rattle.bqn_syntax.specs.scope.Scope.{same_name, system_names};
 ghost use Rattle.bqn_scope.specs.Scopes.{use_shown};
 ghost use Rattle.bqn_compile.specs.Pools.{constant_of, seen_at};
 ghost use Rattle.bqn_compile.specs.Expressions.{load as load_of, store as store_of, special_instr as special_in, system_instr as system_in, literal_instr as literal_in, leaf_instr as leaf_in, block_instr as block_in};

@@ -1,7 +1,7 @@
 ghost use Rattle.std.specs.Prelude.{◌≡◌, [], ◌∷◌, ◌++◌, false, IfOk, IsTrue, OnOk};
 ghost use Rattle.std.specs.List.{list_all};
 ghost use Rattle.bqn_base.specs.Names.{is_name_character};
-ghost use Rattle.bqn_syntax.specs.Scope.{has, place_of};
+ghost use Rattle.bqn_syntax.specs.scope.Scope.{has, place_of};
 ghost use Rattle.bqn_compile.specs.Pools.{name_number};
 
 use bqn_base::{Memory, Name, Row};

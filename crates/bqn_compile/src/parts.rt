@@ -1,8 +1,8 @@
 //! What the parts of an expression are made one by.
 
 ghost use Rattle.std.specs.Prelude.{◌≡◌, IfOk, OnOk, map};
-ghost use Rattle.bqn_syntax.specs.Plain.{use_of, uses as plain_uses};
-ghost use Rattle.bqn_syntax.specs.Scope.{name_of};
+ghost use Rattle.bqn_syntax.specs.grammar.Trees.{use_of, uses as plain_uses};
+ghost use Rattle.bqn_syntax.specs.scope.Scope.{name_of};
 ghost use Rattle.bqn_code.specs.declared.instr.Instr.TheVariants as instr;
 ghost use Rattle.bqn_compile.specs.Expressions.{atop_code, derive_instr, derives, fields_code, fork_code};
 ghost use Rattle.bqn_compile.specs.Pools.{name_number};
@@ -38,7 +38,7 @@ pub fn fields(known: &Known, all: &[Token], out: &mut Walk) -> Result<(), NoMemo
     Ok(())
 }
 
-#[tactic(auto, using(bqn_syntax::specs::Levels::levels))]
+#[tactic(auto, using(bqn_syntax::specs::grammar::TreeEquations::levels))]
 fn derived_instr(u: &ModUse) -> Instr
     ensures { result ≡ derive_instr (use_of u.now) }
 {
@@ -49,7 +49,7 @@ fn derived_instr(u: &ModUse) -> Instr
 }
 
 /// What the modifiers behind a part make, once all parts are there.
-#[tactic(auto, using(bqn_syntax::specs::Levels::levels, crate::proofs::Walks::push_laws))]
+#[tactic(auto, using(bqn_syntax::specs::grammar::TreeEquations::levels, crate::proofs::Walks::push_laws))]
 pub fn derive(all: &[ModUse], out: &mut Walk) -> Result<(), NoMemory>
     ensures { OnOk result (walked out.new ≡ pushes (derives (plain_uses (map use_of all.now))) (walked out.old)) }
 {

@@ -1,9 +1,9 @@
 //! The patterns of a code.
 
 ghost use Rattle.std.specs.Prelude.{◌≡◌, ◌+◌, IfOk, OnOk, map};
-ghost use Rattle.bqn_syntax.specs.Order.{by_arrow};
-ghost use Rattle.bqn_syntax.specs.Plain.{pattern_of as tree_of, patterns as plain_patterns};
-ghost use Rattle.bqn_syntax.specs.Scope.{name_of};
+ghost use Rattle.bqn_syntax.specs.scope.Order.{by_arrow};
+ghost use Rattle.bqn_syntax.specs.grammar.Trees.{pattern_of as tree_of, patterns as plain_patterns};
+ghost use Rattle.bqn_syntax.specs.scope.Scope.{name_of};
 ghost use Rattle.bqn_code.specs.Plain.{ListPattern, pattern_of, patterns};
 ghost use Rattle.bqn_compile.specs.Pools.{constant_of, name_number, seen_at};
 ghost use Rattle.bqn_scope.specs.Scopes.{use_shown};
@@ -21,7 +21,7 @@ use bqn_scope::Use;
 use bqn_syntax::{Arrow, Kind, Pattern, Token};
 
 /// A leaf that is stored into, whose use has this number.
-#[tactic(auto, using(bqn_code::specs::Levels::levels))]
+#[tactic(auto, using(bqn_code::specs::PatternEquations::levels))]
 fn stored_leaf(
     pools: &Pools,
     uses: &[Use],
@@ -50,7 +50,7 @@ fn stored_leaf(
     }
 }
 
-#[tactic(auto, using(bqn_code::specs::Levels::levels))]
+#[tactic(auto, using(bqn_code::specs::PatternEquations::levels))]
 fn literal_leaf(pools: &Pools, kind: &Kind) -> Result<PatternCode, Memory>
     ensures { IfOk result (λ p. pattern_of p ≡ literal_code (constants_shown pools.now.constants.keys) (constant_of kind.now)) }
 {
@@ -82,7 +82,7 @@ fn pass(number: &mut u32, kind: &Kind) -> Result<(), Memory>
 /// A pattern whose first use has this number, once its leaves are pooled. The number goes past its
 /// uses.
 #[cycle(pattern_code)]
-#[tactic(auto, using(bqn_syntax::specs::Levels::levels, bqn_code::specs::Levels::levels))]
+#[tactic(auto, using(bqn_syntax::specs::grammar::TreeEquations::levels, bqn_code::specs::PatternEquations::levels))]
 pub fn pattern_code(
     pools: &Pools,
     uses: &[Use],
@@ -107,7 +107,7 @@ pub fn pattern_code(
 }
 
 #[cycle(pattern_code)]
-#[tactic(auto, using(bqn_syntax::specs::Levels::levels, bqn_code::specs::Levels::levels))]
+#[tactic(auto, using(bqn_syntax::specs::grammar::TreeEquations::levels, bqn_code::specs::PatternEquations::levels))]
 fn list_code(
     pools: &Pools,
     uses: &[Use],

@@ -3,9 +3,9 @@
 ghost use Rattle.std.specs.Prelude.{◌≡◌, IsTrue, map};
 ghost use Rattle.std.specs.List.{list_all};
 ghost use Rattle.bqn_base.specs.Names.{is_name_character};
-ghost use Rattle.bqn_syntax.specs.Order.{by_arrow};
-ghost use Rattle.bqn_syntax.specs.Plain.{pattern_of, patterns as plain_patterns};
-ghost use Rattle.bqn_syntax.specs.Scope.{defines as defines_in, name_of as name_in};
+ghost use Rattle.bqn_syntax.specs.scope.Order.{by_arrow};
+ghost use Rattle.bqn_syntax.specs.grammar.Trees.{pattern_of, patterns as plain_patterns};
+ghost use Rattle.bqn_syntax.specs.scope.Scope.{defines as defines_in, name_of as name_in};
 ghost use Rattle.bqn_scope.specs.Scopes.{use_shown};
 ghost use Rattle.bqn_compile.specs.Pools.{constant_of};
 ghost use Rattle.bqn_compile.specs.Gathering as gather;
@@ -122,7 +122,7 @@ pub fn fields(pools: &mut Pools, names: &[Token]) -> Result<(), CompileError>
 
 /// The names that are exported without a value.
 #[cycle(shown)]
-#[tactic(auto, using(bqn_syntax::specs::Levels::levels))]
+#[tactic(auto, using(bqn_syntax::specs::grammar::TreeEquations::levels))]
 pub fn shown(pools: &mut Pools, q: &Pattern) -> Result<(), CompileError>
     ensures { GathersTo result (gathered_shown pools.new) (gather.shown (pattern_of q.now) (gathered_shown pools.old)) }
 {
@@ -135,7 +135,7 @@ pub fn shown(pools: &mut Pools, q: &Pattern) -> Result<(), CompileError>
 }
 
 #[cycle(shown)]
-#[tactic(auto, using(bqn_syntax::specs::Levels::levels))]
+#[tactic(auto, using(bqn_syntax::specs::grammar::TreeEquations::levels))]
 fn all_shown(pools: &mut Pools, all: &[Pattern]) -> Result<(), CompileError>
     ensures { GathersTo result (gathered_shown pools.new) (gather.all_shown (plain_patterns (map pattern_of all.now)) (gathered_shown pools.old)) }
 {

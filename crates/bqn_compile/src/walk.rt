@@ -1,7 +1,7 @@
 //! A walk through the text of a program, and what it makes of single tokens.
 
 ghost use Rattle.std.specs.Prelude.{◌≡◌, [], ◌∷◌, IfOk, OnOk, length as list_length};
-ghost use Rattle.bqn_syntax.specs.Plain.{pattern_of};
+ghost use Rattle.bqn_syntax.specs.grammar.Trees.{pattern_of};
 ghost use Rattle.bqn_compile.specs.Walking.{append, drop_code, ending, load_at, onward, push as pushed, setting_of, skip as skipped, store_at, target_walk, targets_walk, token_walk, turned, walked};
 
 use crate::count::{Count, past};
@@ -128,7 +128,7 @@ pub fn token(known: &Known, t: &Token, out: &mut Walk) -> Result<(), NoMemory>
 }
 
 /// The target of an arrow.
-#[tactic(auto, using(bqn_syntax::specs::Levels::levels, crate::proofs::Walks::push_laws), unfolding(crate::specs::Walking::setting_of, crate::specs::Walking::target_walk, crate::specs::Walking::store_at))]
+#[tactic(auto, using(bqn_syntax::specs::grammar::TreeEquations::levels, crate::proofs::Walks::push_laws), unfolding(crate::specs::Walking::setting_of, crate::specs::Walking::target_walk, crate::specs::Walking::store_at))]
 pub fn target(known: &Known, q: &Pattern, arrow: Arrow, out: &mut Walk) -> Result<(), NoMemory>
     ensures { OnOk result (walked out.new ≡ target_walk (setting_of known.now) (pattern_of q.now) arrow (walked out.old)) }
 {

@@ -3,10 +3,10 @@ use Rattle.std.proofs.Common.{◌≡◌, List, [], Result, Ok, Err, refl, ◌∙
 use Rattle.bqn_base.specs.declared.refusal.Refusal.{Refusal}
 use Rattle.bqn_syntax.specs.declared.token.Token.{Token}
 use Rattle.bqn_syntax.specs.declared.sort.Inside.TheVariants as inside
-use Rattle.bqn_syntax.specs.Brackets.{partners_of}
-use Rattle.bqn_syntax.specs.Parsing.{levels, fresh, nowhere, walk, parsed}
-use Rattle.bqn_syntax.specs.Grammar.{WellTreesAreFound, TreesAreUnique}
-use Rattle.bqn_syntax.specs.Plain.{Stmts}
+use Rattle.bqn_syntax.specs.grammar.Brackets.{partners_of}
+use Rattle.bqn_syntax.specs.grammar.Parsing.{levels, fresh, nowhere, walk, parsed}
+use Rattle.bqn_syntax.specs.grammar.Grammar.{WellTreesAreFound, TreesAreUnique}
+use Rattle.bqn_syntax.specs.grammar.Trees.{Stmts}
 use Rattle.bqn_grammar.proofs.WalkedTree.{program_walks}
 use Rattle.bqn_grammar.proofs.WalkedBrackets.{walk_nests}
 

@@ -10,11 +10,11 @@ use Rattle.bqn_syntax.specs.declared.tree.Arrow.{Arrow}
 use Rattle.bqn_syntax.specs.declared.tree.Arrow.TheVariants as arrow
 use Rattle.bqn_syntax.specs.declared.sort.Tag.{Tag}
 use Rattle.bqn_syntax.specs.declared.sort.Tag.TheVariants as tag
-use Rattle.bqn_syntax.specs.Sorts.{tag as tag_of, is_name, named, token_named}
-use Rattle.bqn_syntax.specs.Units.{Unit', Function, Arrow', alone}
-use Rattle.bqn_syntax.specs.Expressions.{more, assigned, changed, steps_of, value, single, targets, train, expression, statement, predicate}
-use Rattle.bqn_syntax.specs.Plain.{Pattern, Name, Skip, Literal, Expr, Value, Train, Modifier, Part, Leaf, Apply, Assign, Modify, Eval, Predicate, Derived, derived, none, some, no_uses, and_uses, Steps, no_steps, and_steps, Deriveds, no_deriveds, and_deriveds}
-use Rattle.bqn_syntax.specs.Well.{WellExpr, WellSteps, TargetsFit, IsLeft, IsModifier, IsFunction, IsTarget, IsSome, IsValue, PlaceFits, TrainFits, any_left_of, IsLast, BeginsWithChange}
+use Rattle.bqn_syntax.specs.grammar.Sorts.{tag as tag_of, is_name, named, token_named}
+use Rattle.bqn_syntax.specs.grammar.Units.{Unit', Function, Arrow', alone}
+use Rattle.bqn_syntax.specs.grammar.Expressions.{more, assigned, changed, steps_of, value, single, targets, train, expression, statement, predicate}
+use Rattle.bqn_syntax.specs.grammar.Trees.{Pattern, Name, Skip, Literal, Expr, Value, Train, Modifier, Part, Leaf, Apply, Assign, Modify, Eval, Predicate, Derived, derived, none, some, no_uses, and_uses, Steps, no_steps, and_steps, Deriveds, no_deriveds, and_deriveds}
+use Rattle.bqn_syntax.specs.grammar.Well.{WellExpr, WellSteps, TargetsFit, IsLeft, IsModifier, IsFunction, IsTarget, IsSome, IsValue, PlaceFits, TrainFits, any_left_of, IsLast, BeginsWithChange}
 use Rattle.bqn_grammar.proofs.FoundTerms.{named_is}
 use Rattle.bqn_grammar.proofs.FoundSteps.{target_unit, steps_units, derived_unit, deriveds_units, targets_units, expr_units}
 

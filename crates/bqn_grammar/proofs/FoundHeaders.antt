@@ -9,12 +9,12 @@ use Rattle.bqn_syntax.specs.declared.token.Kind.TheVariants as kind
 use Rattle.bqn_syntax.specs.declared.sort.Sort.TheVariants.{Stands}
 use Rattle.bqn_syntax.specs.declared.sort.Tag.{Tag}
 use Rattle.bqn_syntax.specs.declared.sort.Tag.TheVariants as tag
-use Rattle.bqn_syntax.specs.Sorts.{sort_of, is_name, token_named}
-use Rattle.bqn_syntax.specs.Items.{Element, OfPart, OfList, Item, Standing, Joining, onto_first, group_pattern, groups, only_group}
-use Rattle.bqn_syntax.specs.Headers.{open_list, lists, header_items, own_tag, lone_token, token_tag, group_tag, is_left_operand, is_right_operand, left_operand, outermost_name, outermost_pattern, header_pattern, is_left, is_right, special_or, left_argument, right_argument, with_right, function_form, operand_form, without_left, left_of, or_left, header_form, header_in}
-use Rattle.bqn_syntax.specs.Spells.{Sign, Exact, Fits, done, token_signs, argument_signs, header_signs}
-use Rattle.bqn_syntax.specs.Well.{IsLiteral, WellPattern, WellJoined, IsNoStrand, IsOutermost, IsArgument, special, pattern, ArgumentFits, OperandFits, SelfFits, SidesFit, WellHeader}
-use Rattle.bqn_syntax.specs.Plain.{Pattern, Name, Skip, Literal, ListPattern, StrandPattern, Patterns, no_patterns, and_patterns, Header, Leaf, Nothing}
+use Rattle.bqn_syntax.specs.grammar.Sorts.{sort_of, is_name, token_named}
+use Rattle.bqn_syntax.specs.grammar.Items.{Element, OfPart, OfList, Item, Standing, Joining, onto_first, group_pattern, groups, only_group}
+use Rattle.bqn_syntax.specs.grammar.Headers.{open_list, lists, header_items, own_tag, lone_token, token_tag, group_tag, is_left_operand, is_right_operand, left_operand, outermost_name, outermost_pattern, header_pattern, is_left, is_right, special_or, left_argument, right_argument, with_right, function_form, operand_form, without_left, left_of, or_left, header_form, header_in}
+use Rattle.bqn_syntax.specs.grammar.Spells.{Sign, Exact, Fits, done, token_signs, argument_signs, header_signs}
+use Rattle.bqn_syntax.specs.grammar.Well.{IsLiteral, WellPattern, WellJoined, IsNoStrand, IsOutermost, IsArgument, special, pattern, ArgumentFits, OperandFits, SelfFits, SidesFit, WellHeader}
+use Rattle.bqn_syntax.specs.grammar.Trees.{Pattern, Name, Skip, Literal, ListPattern, StrandPattern, Patterns, no_patterns, and_patterns, Header, Leaf, Nothing}
 use Rattle.bqn_grammar.proofs.TreeItems.{part_item, pattern_items, joined_more_items}
 use Rattle.bqn_grammar.proofs.FoundPatterns.{pattern_element, pattern_elements}
 use Rattle.bqn_grammar.proofs.FoundPieces.{pattern_found}

@@ -7,12 +7,12 @@ use Rattle.bqn_syntax.specs.declared.token.Kind.TheVariants as kind
 use Rattle.bqn_syntax.specs.declared.sort.Bracket.TheVariants.{Angle}
 use Rattle.bqn_syntax.specs.declared.sort.Sort.{Sort}
 use Rattle.bqn_syntax.specs.declared.sort.Sort.TheVariants.{Opens, Closes, Separates, Joins, Skips, Stands}
-use Rattle.bqn_syntax.specs.Sorts.{sort_of, punct_sort, is_word}
-use Rattle.bqn_syntax.specs.Items.{OfList, Item, Standing, Joining, piece_pattern}
-use Rattle.bqn_syntax.specs.Headers.{OpenList, open_list, and_item, end_of_piece, Lists, lists, list_closes, list_goes_on, header_step, header_items}
-use Rattle.bqn_syntax.specs.Spells.{Sign, Exact, Mark, Apart, Gap, Fits, exact, mark, apart, one_more, no_more, mark_at, pattern_signs, listed_signs, listed_more, joined_signs, joined_more}
-use Rattle.bqn_syntax.specs.Well.{IsLiteral, WellPattern, WellPatterns, WellJoined}
-use Rattle.bqn_syntax.specs.Plain.{Pattern, Name, Skip, Literal, ListPattern, StrandPattern, Patterns, no_patterns, and_patterns, patterns, Leaf, Nothing}
+use Rattle.bqn_syntax.specs.grammar.Sorts.{sort_of, punct_sort, is_word}
+use Rattle.bqn_syntax.specs.grammar.Items.{OfList, Item, Standing, Joining, piece_pattern}
+use Rattle.bqn_syntax.specs.grammar.Headers.{OpenList, open_list, and_item, end_of_piece, Lists, lists, list_closes, list_goes_on, header_step, header_items}
+use Rattle.bqn_syntax.specs.grammar.Spells.{Sign, Exact, Mark, Apart, Gap, Fits, exact, mark, apart, one_more, no_more, mark_at, pattern_signs, listed_signs, listed_more, joined_signs, joined_more}
+use Rattle.bqn_syntax.specs.grammar.Well.{IsLiteral, WellPattern, WellPatterns, WellJoined}
+use Rattle.bqn_syntax.specs.grammar.Trees.{Pattern, Name, Skip, Literal, ListPattern, StrandPattern, Patterns, no_patterns, and_patterns, patterns, Leaf, Nothing}
 use Rattle.bqn_grammar.proofs.TreeItems.{part_item, pattern_items, joined_items, joined_more_items}
 use Rattle.bqn_grammar.proofs.FoundPatterns.{patterns_list}
 use Rattle.bqn_grammar.proofs.FoundPieces.{pattern_found, pattern_items_are_some}

@@ -5,10 +5,10 @@ use Rattle.std.specs.Option.{option_map, option_and_then}
 use Rattle.bqn_syntax.specs.declared.token.Kind.{Kind}
 use Rattle.bqn_syntax.specs.declared.token.Kind.TheVariants as kind
 use Rattle.bqn_syntax.specs.declared.token.Token.{Token}
-use Rattle.bqn_syntax.specs.Sorts.{is_word}
-use Rattle.bqn_syntax.specs.Items.{Element, OfPart, OfList, Item, Standing, both, each, leaf_pattern, element_pattern, onto_first, groups, only_group, piece_pattern, Term, Operand, Target, aimed_term, At, Joined, Terms, reads, aimed_terms, puts}
-use Rattle.bqn_syntax.specs.Plain.{Pattern, Name, Skip, Literal, ListPattern, StrandPattern, Patterns, no_patterns, and_patterns, patterns, Leaf, Nothing}
-use Rattle.bqn_syntax.specs.Well.{WellPattern, WellJoined, AreTwo, IsNoStrand, IsLiteral}
+use Rattle.bqn_syntax.specs.grammar.Sorts.{is_word}
+use Rattle.bqn_syntax.specs.grammar.Items.{Element, OfPart, OfList, Item, Standing, both, each, leaf_pattern, element_pattern, onto_first, groups, only_group, piece_pattern, Term, Operand, Target, aimed_term, At, Joined, Terms, reads, aimed_terms, puts}
+use Rattle.bqn_syntax.specs.grammar.Trees.{Pattern, Name, Skip, Literal, ListPattern, StrandPattern, Patterns, no_patterns, and_patterns, patterns, Leaf, Nothing}
+use Rattle.bqn_syntax.specs.grammar.Well.{WellPattern, WellJoined, AreTwo, IsNoStrand, IsLiteral}
 use Rattle.bqn_grammar.proofs.TreeItems.{pattern_items, joined_items, joined_more_items}
 use Rattle.bqn_grammar.proofs.FoundTerms.{run, run-append, Gives, Aims, Joins, stands_given}
 

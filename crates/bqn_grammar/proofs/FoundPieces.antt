@@ -7,12 +7,12 @@ use Rattle.bqn_syntax.specs.declared.token.Token.{Token}
 use Rattle.bqn_syntax.specs.declared.tree.Arrow.TheVariants as arrow
 use Rattle.bqn_syntax.specs.declared.sort.Tag.{Tag}
 use Rattle.bqn_syntax.specs.declared.sort.Tag.TheVariants as tag
-use Rattle.bqn_syntax.specs.Sorts.{tag as tag_of, is_word}
-use Rattle.bqn_syntax.specs.Items.{Item, Drawn, Term, leaf_pattern, terms_of, piece_pattern}
-use Rattle.bqn_syntax.specs.Units.{Unit', Arrow', alone, units_of}
-use Rattle.bqn_syntax.specs.Expressions.{expression, exported, statement, predicate, units_in, piece_expression, piece_statement, piece_predicate}
-use Rattle.bqn_syntax.specs.Plain.{Pattern, Name, Skip, Literal, ListPattern, StrandPattern, Expr, Leaf, Eval, Predicate, Export}
-use Rattle.bqn_syntax.specs.Well.{WellExpr, WellPattern, IsValue}
+use Rattle.bqn_syntax.specs.grammar.Sorts.{tag as tag_of, is_word}
+use Rattle.bqn_syntax.specs.grammar.Items.{Item, Drawn, Term, leaf_pattern, terms_of, piece_pattern}
+use Rattle.bqn_syntax.specs.grammar.Units.{Unit', Arrow', alone, units_of}
+use Rattle.bqn_syntax.specs.grammar.Expressions.{expression, exported, statement, predicate, units_in, piece_expression, piece_statement, piece_predicate}
+use Rattle.bqn_syntax.specs.grammar.Trees.{Pattern, Name, Skip, Literal, ListPattern, StrandPattern, Expr, Leaf, Eval, Predicate, Export}
+use Rattle.bqn_syntax.specs.grammar.Well.{WellExpr, WellPattern, IsValue}
 use Rattle.bqn_grammar.proofs.TreeItems.{pattern_items, expr_items}
 use Rattle.bqn_grammar.proofs.FoundPatterns.{pattern_read, pattern_has_items}
 use Rattle.bqn_grammar.proofs.FoundSteps.{units_terms, target_unit, expr_units, target_given, start, expr_terms_of}

@@ -7,11 +7,11 @@ use Rattle.bqn_syntax.specs.declared.tree.Arrow.{Arrow}
 use Rattle.bqn_syntax.specs.declared.tree.Arrow.TheVariants as arrow
 use Rattle.bqn_syntax.specs.declared.sort.Tag.{Tag}
 use Rattle.bqn_syntax.specs.declared.sort.Tag.TheVariants as tag
-use Rattle.bqn_syntax.specs.Sorts.{tag as tag_of}
-use Rattle.bqn_syntax.specs.Items.{OfPart, Drawn, Term, Operand, Target, Draw, Between, Terms, reads, finished, terms_of}
-use Rattle.bqn_syntax.specs.Units.{Unit', Subject, Function, Absent, Alone, Arrow', Aim, alone}
-use Rattle.bqn_syntax.specs.Plain.{Pattern, Name, Skip, Expr, Value, Train, Modifier, Use, One, Two, Part, Leaf, Elements, Strand, Nothing, Step, Apply, Assign, Modify, Derived, derived, none, some, Uses, no_uses, and_uses, Steps, no_steps, and_steps, Deriveds, no_deriveds, and_deriveds}
-use Rattle.bqn_syntax.specs.Well.{WellExpr, WellPart, WellSteps, WellStep, WellDerived, WellDeriveds, WellUses, WellUse, WellPattern, UsesFit, IsFunction, MayStandBeforeArrow, LastOperand, EndsInNoList}
+use Rattle.bqn_syntax.specs.grammar.Sorts.{tag as tag_of}
+use Rattle.bqn_syntax.specs.grammar.Items.{OfPart, Drawn, Term, Operand, Target, Draw, Between, Terms, reads, finished, terms_of}
+use Rattle.bqn_syntax.specs.grammar.Units.{Unit', Subject, Function, Absent, Alone, Arrow', Aim, alone}
+use Rattle.bqn_syntax.specs.grammar.Trees.{Pattern, Name, Skip, Expr, Value, Train, Modifier, Use, One, Two, Part, Leaf, Elements, Strand, Nothing, Step, Apply, Assign, Modify, Derived, derived, none, some, Uses, no_uses, and_uses, Steps, no_steps, and_steps, Deriveds, no_deriveds, and_deriveds}
+use Rattle.bqn_syntax.specs.grammar.Well.{WellExpr, WellPart, WellSteps, WellStep, WellDerived, WellDeriveds, WellUses, WellUse, WellPattern, UsesFit, IsFunction, MayStandBeforeArrow, LastOperand, EndsInNoList}
 use Rattle.bqn_grammar.proofs.TreeItems.{part_item, pattern_items, target_items, part_items, use_items, uses_items, derived_items, deriveds_items, step_items, steps_items, expr_items}
 use Rattle.bqn_grammar.proofs.FoundTerms.{run, Gives, Aims, gives-append, aims-append, stands_given, part_given, part_aims, arrow_gives}
 use Rattle.bqn_grammar.proofs.FoundPatterns.{pattern_term, pattern_aims}

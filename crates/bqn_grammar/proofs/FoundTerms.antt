@@ -8,10 +8,10 @@ use Rattle.bqn_syntax.specs.declared.token.Token.{Token}
 use Rattle.bqn_syntax.specs.declared.tree.Arrow.{Arrow}
 use Rattle.bqn_syntax.specs.declared.sort.Tag.{Tag}
 use Rattle.bqn_syntax.specs.declared.sort.Tag.TheVariants as tag
-use Rattle.bqn_syntax.specs.Sorts.{tag as tag_of, same_tag, kind_tag, role_tag, last_tag, is_name, is_word}
-use Rattle.bqn_syntax.specs.Items.{Element, OfPart, Item, Standing, Drawn, Selecting, both, each, Term, Operand, Draw, element_part, plain_term, aimed_term, Reading, Between, At, Joined, Selected, Terms, reads, plain_terms, aimed_terms, with_name, selected, stand, select_of, put, puts, finished}
-use Rattle.bqn_syntax.specs.Plain.{Part, Leaf, Elements, Merge, Paren, Block, Field, Strand, Nothing, Parts, no_parts, and_parts, parts}
-use Rattle.bqn_syntax.specs.Well.{WellPart, WellParts, AreTwoParts, IsBase, IsElement, NamesFit, EndsInNoList}
+use Rattle.bqn_syntax.specs.grammar.Sorts.{tag as tag_of, same_tag, kind_tag, role_tag, last_tag, is_name, is_word}
+use Rattle.bqn_syntax.specs.grammar.Items.{Element, OfPart, Item, Standing, Drawn, Selecting, both, each, Term, Operand, Draw, element_part, plain_term, aimed_term, Reading, Between, At, Joined, Selected, Terms, reads, plain_terms, aimed_terms, with_name, selected, stand, select_of, put, puts, finished}
+use Rattle.bqn_syntax.specs.grammar.Trees.{Part, Leaf, Elements, Merge, Paren, Block, Field, Strand, Nothing, Parts, no_parts, and_parts, parts}
+use Rattle.bqn_syntax.specs.grammar.Well.{WellPart, WellParts, AreTwoParts, IsBase, IsElement, NamesFit, EndsInNoList}
 use Rattle.bqn_grammar.proofs.TreeItems.{part_item, name_items, part_items, parts_items, parts_more_items}
 
 -- Sequences of items.

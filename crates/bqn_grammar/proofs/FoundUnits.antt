@@ -7,11 +7,11 @@ use Rattle.bqn_syntax.specs.declared.tree.Arrow.{Arrow}
 use Rattle.bqn_syntax.specs.declared.tree.Arrow.TheVariants as arrow
 use Rattle.bqn_syntax.specs.declared.sort.Tag.{Tag}
 use Rattle.bqn_syntax.specs.declared.sort.Tag.TheVariants as tag
-use Rattle.bqn_syntax.specs.Sorts.{tag as tag_of, kind_tag}
-use Rattle.bqn_syntax.specs.Items.{Term, Operand, Draw}
-use Rattle.bqn_syntax.specs.Units.{Unit', Subject, Function, Absent, Alone, Arrow', Aim, Binding, Free, Bound, Wanting, Row, row, alone, closed, operand, beside, bind_part, bind, binds, bound, units_of}
-use Rattle.bqn_syntax.specs.Plain.{Pattern, Name, Skip, Literal, Expr, Value, Train, Modifier, Use, One, Two, Part, Leaf, Step, Apply, Assign, Modify, Derived, derived, none, some, Uses, no_uses, and_uses, uses, Steps, no_steps, and_steps, Deriveds, no_deriveds, and_deriveds}
-use Rattle.bqn_syntax.specs.Well.{WellExpr, WellSteps, WellStep, UseFits, UsesFit, IsOperand, IsLeft, IsModifier, IsFunction, IsTarget, PlaceFits, TrainFits, any_left_of, IsLast}
+use Rattle.bqn_syntax.specs.grammar.Sorts.{tag as tag_of, kind_tag}
+use Rattle.bqn_syntax.specs.grammar.Items.{Term, Operand, Draw}
+use Rattle.bqn_syntax.specs.grammar.Units.{Unit', Subject, Function, Absent, Alone, Arrow', Aim, Binding, Free, Bound, Wanting, Row, row, alone, closed, operand, beside, bind_part, bind, binds, bound, units_of}
+use Rattle.bqn_syntax.specs.grammar.Trees.{Pattern, Name, Skip, Literal, Expr, Value, Train, Modifier, Use, One, Two, Part, Leaf, Step, Apply, Assign, Modify, Derived, derived, none, some, Uses, no_uses, and_uses, uses, Steps, no_steps, and_steps, Deriveds, no_deriveds, and_deriveds}
+use Rattle.bqn_syntax.specs.grammar.Well.{WellExpr, WellSteps, WellStep, UseFits, UsesFit, IsOperand, IsLeft, IsModifier, IsFunction, IsTarget, PlaceFits, TrainFits, any_left_of, IsLast}
 use Rattle.bqn_grammar.proofs.FoundTerms.{named_is}
 use Rattle.bqn_grammar.proofs.FoundSteps.{use_terms, uses_terms, unit_terms, units_terms, target_unit, step_units, steps_units, derived_unit, deriveds_units, targets_units, expr_units, alone_terms}
 

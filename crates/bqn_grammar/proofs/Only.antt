@@ -1,5 +1,5 @@
 -- Only well trees are found, and the tokens spell them.
-use Rattle.bqn_syntax.specs.Grammar.{OnlyWellTreesAreFound}
+use Rattle.bqn_syntax.specs.grammar.Grammar.{OnlyWellTreesAreFound}
 use Rattle.bqn_grammar.proofs.OnlyPieces.{expression_only, statement_only, predicate_only, pattern_only, expr_depths, pattern_depths, stmt_depths}
 use Rattle.bqn_grammar.proofs.SoundLevels.{Pieces}
 use Rattle.bqn_grammar.proofs.SoundWalk.{parsed_only}

@@ -1,9 +1,9 @@
 -- How deep a tree is, from its items.
 use Rattle.std.proofs.Common.{◌≤◌, ℕ, max, List, [], ◌∷◌, ◌++◌, arith}
 use Rattle.bqn_syntax.specs.declared.tree.Arrow.TheVariants as arrow
-use Rattle.bqn_syntax.specs.Items.{Item, Drawn}
-use Rattle.bqn_syntax.specs.Well.{pattern_depth, patterns_depth, expr_depth, part_depth, maybe_depth, steps_depth, step_depth, derived_depth, uses_depth, use_depth, deriveds_depth, parts_depth}
-use Rattle.bqn_syntax.specs.Plain.{Pattern, Name, Skip, Literal, ListPattern, StrandPattern, Patterns, no_patterns, and_patterns, Expr, Value, Train, Modifier, Use, One, Two, Part, Leaf, Elements, Merge, Paren, Block, Field, Strand, Nothing, Step, Apply, Assign, Modify, Derived, derived, MaybePart, none, some, Uses, no_uses, and_uses, Parts, no_parts, and_parts, Steps, no_steps, and_steps, Deriveds, no_deriveds, and_deriveds}
+use Rattle.bqn_syntax.specs.grammar.Items.{Item, Drawn}
+use Rattle.bqn_syntax.specs.grammar.Well.{pattern_depth, patterns_depth, expr_depth, part_depth, maybe_depth, steps_depth, step_depth, derived_depth, uses_depth, use_depth, deriveds_depth, parts_depth}
+use Rattle.bqn_syntax.specs.grammar.Trees.{Pattern, Name, Skip, Literal, ListPattern, StrandPattern, Patterns, no_patterns, and_patterns, Expr, Value, Train, Modifier, Use, One, Two, Part, Leaf, Elements, Merge, Paren, Block, Field, Strand, Nothing, Step, Apply, Assign, Modify, Derived, derived, MaybePart, none, some, Uses, no_uses, and_uses, Parts, no_parts, and_parts, Steps, no_steps, and_steps, Deriveds, no_deriveds, and_deriveds}
 use Rattle.bqn_grammar.proofs.TreeItems.{part_items, parts_items, parts_more_items, pattern_items, joined_items, joined_more_items, name_items, target_items, maybe_items, use_items, uses_items, derived_items, deriveds_items, step_items, steps_items, expr_items, ItemDepths}
 
 none_open : (n : ℕ) → 0 ≤ n

@@ -4,10 +4,10 @@ use Rattle.std.specs.Option.{option_map, option_and_then}
 use Rattle.bqn_syntax.specs.declared.token.Kind.{Kind}
 use Rattle.bqn_syntax.specs.declared.token.Kind.TheVariants as kind
 use Rattle.bqn_syntax.specs.declared.token.Token.{Token}
-use Rattle.bqn_syntax.specs.Sorts.{is_word}
-use Rattle.bqn_syntax.specs.Items.{Element, OfPart, OfList, Item, Standing, Joining, both, each, leaf_pattern, element_pattern, element_part}
-use Rattle.bqn_syntax.specs.Well.{WellPart, WellParts, WellPattern, WellJoined, IsNoStrand, IsLiteral, AreTwo, AreTwoParts, IsElement}
-use Rattle.bqn_syntax.specs.Plain.{Pattern, Name, Skip, Literal, ListPattern, StrandPattern, patterns, Part, Leaf, Field, Strand, Nothing, parts}
+use Rattle.bqn_syntax.specs.grammar.Sorts.{is_word}
+use Rattle.bqn_syntax.specs.grammar.Items.{Element, OfPart, OfList, Item, Standing, Joining, both, each, leaf_pattern, element_pattern, element_part}
+use Rattle.bqn_syntax.specs.grammar.Well.{WellPart, WellParts, WellPattern, WellJoined, IsNoStrand, IsLiteral, AreTwo, AreTwoParts, IsElement}
+use Rattle.bqn_syntax.specs.grammar.Trees.{Pattern, Name, Skip, Literal, ListPattern, StrandPattern, patterns, Part, Leaf, Field, Strand, Nothing, parts}
 use Rattle.bqn_grammar.proofs.TreeItems.{part_item, part_items, parts_items, parts_more_items, pattern_items, joined_items, joined_more_items, IsOne, IsList, GoodElement}
 
 pub map_some : {A B : Type 0} (f : A → B) (o : Option A) (y : B) → option_map f o ≡ Some y → (x : A) × (o ≡ Some x) × (f x ≡ y)

@@ -6,12 +6,12 @@ use Rattle.bqn_syntax.specs.declared.tree.Arrow.{Arrow}
 use Rattle.bqn_syntax.specs.declared.tree.Arrow.TheVariants as arrow
 use Rattle.bqn_syntax.specs.declared.sort.Tag.{Tag}
 use Rattle.bqn_syntax.specs.declared.sort.Tag.TheVariants as tag
-use Rattle.bqn_syntax.specs.Sorts.{tag as tag_of, named}
-use Rattle.bqn_syntax.specs.Items.{Item}
-use Rattle.bqn_syntax.specs.Units.{Unit', Subject, Function, Absent, Alone, Arrow'}
-use Rattle.bqn_syntax.specs.Expressions.{changed, steps_of, value, targets, train, expression}
-use Rattle.bqn_syntax.specs.Well.{WellExpr, WellPart, WellDerived, WellDeriveds, IsModifier, IsFunction, PlaceFits, TrainFits, IsSome, any_left_of, IsLast, BeginsWithChange}
-use Rattle.bqn_syntax.specs.Plain.{Expr, Value, Train, Modifier, Part, Derived, derived, no_uses, and_uses, MaybePart, none, some, Steps, Deriveds, no_deriveds, and_deriveds}
+use Rattle.bqn_syntax.specs.grammar.Sorts.{tag as tag_of, named}
+use Rattle.bqn_syntax.specs.grammar.Items.{Item}
+use Rattle.bqn_syntax.specs.grammar.Units.{Unit', Subject, Function, Absent, Alone, Arrow'}
+use Rattle.bqn_syntax.specs.grammar.Expressions.{changed, steps_of, value, targets, train, expression}
+use Rattle.bqn_syntax.specs.grammar.Well.{WellExpr, WellPart, WellDerived, WellDeriveds, IsModifier, IsFunction, PlaceFits, TrainFits, IsSome, any_left_of, IsLast, BeginsWithChange}
+use Rattle.bqn_syntax.specs.grammar.Trees.{Expr, Value, Train, Modifier, Part, Derived, derived, no_uses, and_uses, MaybePart, none, some, Steps, Deriveds, no_deriveds, and_deriveds}
 use Rattle.bqn_grammar.proofs.TreeItems.{part_items, derived_items, deriveds_items, steps_items, expr_items}
 use Rattle.bqn_grammar.proofs.OnlyElements.{map_some}
 use Rattle.bqn_grammar.proofs.OnlyUnits.{units_items, WellUnit, WellUnits}

@@ -1,9 +1,9 @@
 -- A pattern is read from what spells it alone.
 use Rattle.std.proofs.Common.{◌≡◌, Bool, List, [], ◌∷◌, ◌++◌, Option, Some, None, refl, sym, ap, ◌∙◌, subst, append-nil}
 use Rattle.std.specs.Option.{option_map}
-use Rattle.bqn_syntax.specs.Items.{Element, Item, Standing, Joining, each, element_pattern, group_pattern, onto_first, groups, only_group, piece_pattern}
-use Rattle.bqn_syntax.specs.Well.{WellPattern}
-use Rattle.bqn_syntax.specs.Plain.{Pattern, StrandPattern, patterns}
+use Rattle.bqn_syntax.specs.grammar.Items.{Element, Item, Standing, Joining, each, element_pattern, group_pattern, onto_first, groups, only_group, piece_pattern}
+use Rattle.bqn_syntax.specs.grammar.Well.{WellPattern}
+use Rattle.bqn_syntax.specs.grammar.Trees.{Pattern, StrandPattern, patterns}
 use Rattle.bqn_grammar.proofs.TreeItems.{pattern_items, GoodItems}
 use Rattle.bqn_grammar.proofs.OnlyElements.{map_some, and_then_some, element_items, more_elements, elements_items, Good, Goods, element_good, element_one, pattern_is, patterns_are, each_two, two_patterns}
 

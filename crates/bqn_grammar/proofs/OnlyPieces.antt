@@ -2,12 +2,12 @@
 use Rattle.std.proofs.Common.{◌≡◌, ◌≤◌, ℕ, true, false, List, [], ◌∷◌, ◌++◌, Some, refl, sym, ap, ◌∙◌, subst}
 use Rattle.std.specs.Option.{option_map, option_and_then}
 use Rattle.bqn_syntax.specs.declared.tree.Arrow.TheVariants as arrow
-use Rattle.bqn_syntax.specs.Classes.{is_predicate}
-use Rattle.bqn_syntax.specs.Items.{Item, Drawn, terms_of}
-use Rattle.bqn_syntax.specs.Units.{Unit', Absent, Arrow', Aim, units_of}
-use Rattle.bqn_syntax.specs.Expressions.{expression, single, exported_part, exported, statement, predicate, units_in, piece_expression, piece_statement, piece_predicate}
-use Rattle.bqn_syntax.specs.Well.{WellStmt, WellPattern, stmt_depth}
-use Rattle.bqn_syntax.specs.Plain.{Pattern, Skip, Expr, Value, Train, Modifier, Part, Leaf, Nothing, Stmt, Eval, Predicate, Export}
+use Rattle.bqn_syntax.specs.grammar.Classes.{is_predicate}
+use Rattle.bqn_syntax.specs.grammar.Items.{Item, Drawn, terms_of}
+use Rattle.bqn_syntax.specs.grammar.Units.{Unit', Absent, Arrow', Aim, units_of}
+use Rattle.bqn_syntax.specs.grammar.Expressions.{expression, single, exported_part, exported, statement, predicate, units_in, piece_expression, piece_statement, piece_predicate}
+use Rattle.bqn_syntax.specs.grammar.Well.{WellStmt, WellPattern, stmt_depth}
+use Rattle.bqn_syntax.specs.grammar.Trees.{Pattern, Skip, Expr, Value, Train, Modifier, Part, Leaf, Nothing, Stmt, Eval, Predicate, Export}
 use Rattle.bqn_grammar.proofs.TreeItems.{part_item, part_items, pattern_items, expr_items, GoodItems, ItemDepths}
 use Rattle.bqn_grammar.proofs.OnlyElements.{map_some, and_then_some, PatternOf, leaf_is}
 use Rattle.bqn_grammar.proofs.OnlyTerms.{terms-only}

@@ -8,12 +8,12 @@ use Rattle.bqn_syntax.specs.declared.tree.Arrow.{Arrow}
 use Rattle.bqn_syntax.specs.declared.tree.Arrow.TheVariants as arrow
 use Rattle.bqn_syntax.specs.declared.sort.Tag.{Tag}
 use Rattle.bqn_syntax.specs.declared.sort.Tag.TheVariants as tag
-use Rattle.bqn_syntax.specs.Sorts.{tag as tag_of, named, token_named, is_name, is_word}
-use Rattle.bqn_syntax.specs.Items.{Item, Drawn}
-use Rattle.bqn_syntax.specs.Units.{Unit', Subject, Function, Absent, Alone, Arrow', Aim}
-use Rattle.bqn_syntax.specs.Expressions.{more, assigned, changed, steps_of, single, targets}
-use Rattle.bqn_syntax.specs.Well.{WellPart, WellSteps, IsLeft, IsLast, IsTarget, BeginsWithChange, TargetsFit}
-use Rattle.bqn_syntax.specs.Plain.{Pattern, Name, Skip, Literal, ListPattern, StrandPattern, Part, Leaf, Derived, derived, no_uses, and_uses, some, none, Step, Apply, Assign, Modify, Steps, no_steps, and_steps}
+use Rattle.bqn_syntax.specs.grammar.Sorts.{tag as tag_of, named, token_named, is_name, is_word}
+use Rattle.bqn_syntax.specs.grammar.Items.{Item, Drawn}
+use Rattle.bqn_syntax.specs.grammar.Units.{Unit', Subject, Function, Absent, Alone, Arrow', Aim}
+use Rattle.bqn_syntax.specs.grammar.Expressions.{more, assigned, changed, steps_of, single, targets}
+use Rattle.bqn_syntax.specs.grammar.Well.{WellPart, WellSteps, IsLeft, IsLast, IsTarget, BeginsWithChange, TargetsFit}
+use Rattle.bqn_syntax.specs.grammar.Trees.{Pattern, Name, Skip, Literal, ListPattern, StrandPattern, Part, Leaf, Derived, derived, no_uses, and_uses, some, none, Step, Apply, Assign, Modify, Steps, no_steps, and_steps}
 use Rattle.bqn_grammar.proofs.TreeItems.{part_item, part_items, pattern_items, derived_items, steps_items, target_items}
 use Rattle.bqn_grammar.proofs.OnlyElements.{map_some, and_then_some}
 use Rattle.bqn_grammar.proofs.OnlyTerms.{IsAim}

@@ -8,10 +8,10 @@ use Rattle.bqn_syntax.specs.declared.token.Token.{Token}
 use Rattle.bqn_syntax.specs.declared.tree.Arrow.{Arrow}
 use Rattle.bqn_syntax.specs.declared.sort.Tag.{Tag}
 use Rattle.bqn_syntax.specs.declared.sort.Tag.TheVariants as tag
-use Rattle.bqn_syntax.specs.Sorts.{tag as tag_of, kind_tag, last_tag, same_tag, is_word, is_name}
-use Rattle.bqn_syntax.specs.Items.{Element, OfPart, OfList, Item, Standing, Drawn, Joining, Selecting, Wrong, each, element_part, element_pattern, Term, Operand, Target, Draw, plain_term, aimed_term, Reading, Between, At, Joined, Selected, Terms, reads, plain_terms, aimed_terms, with_name, selected, stand, join, select_of, select, put, puts, finished, terms_of}
-use Rattle.bqn_syntax.specs.Well.{WellPart, WellPattern, NamesFit, EndsInNoList}
-use Rattle.bqn_syntax.specs.Plain.{Pattern, Name, Skip, Literal, ListPattern, StrandPattern, patterns, Part, Leaf, Elements, Field, Strand, parts}
+use Rattle.bqn_syntax.specs.grammar.Sorts.{tag as tag_of, kind_tag, last_tag, same_tag, is_word, is_name}
+use Rattle.bqn_syntax.specs.grammar.Items.{Element, OfPart, OfList, Item, Standing, Drawn, Joining, Selecting, Wrong, each, element_part, element_pattern, Term, Operand, Target, Draw, plain_term, aimed_term, Reading, Between, At, Joined, Selected, Terms, reads, plain_terms, aimed_terms, with_name, selected, stand, join, select_of, select, put, puts, finished, terms_of}
+use Rattle.bqn_syntax.specs.grammar.Well.{WellPart, WellPattern, NamesFit, EndsInNoList}
+use Rattle.bqn_syntax.specs.grammar.Trees.{Pattern, Name, Skip, Literal, ListPattern, StrandPattern, patterns, Part, Leaf, Elements, Field, Strand, parts}
 use Rattle.bqn_grammar.proofs.TreeItems.{part_item, part_items, name_items, pattern_items, IsList, GoodElement, GoodItem, GoodItems}
 use Rattle.bqn_grammar.proofs.OnlyElements.{map_some, and_then_some, element_items, joins, joins_last, GoodPart, Good, Goods, goods_last, element_good, element_one, elements_are, patterns_are, each_joined, two_parts, two_patterns}
 

@@ -2,11 +2,11 @@
 use Rattle.std.proofs.Common.{◌≡◌, false, List, [], ◌∷◌, ◌++◌, Some, refl, sym, ap, ◌∙◌, subst, append_assoc, append-nil}
 use Rattle.bqn_syntax.specs.declared.sort.Tag.{Tag}
 use Rattle.bqn_syntax.specs.declared.sort.Tag.TheVariants as tag
-use Rattle.bqn_syntax.specs.Sorts.{tag as tag_of}
-use Rattle.bqn_syntax.specs.Items.{Item, Drawn, Term, Operand, Target, Draw}
-use Rattle.bqn_syntax.specs.Units.{Unit', Subject, Function, Absent, Alone, Arrow', Aim, Binding, Free, Bound, Wanting, Row, row, alone, unit_of, closed, operand, modified, modified_twice, beside, bind_part, bind, binds, bound, units_of}
-use Rattle.bqn_syntax.specs.Well.{WellPart, WellPattern, WellUses, WellUse, WellDerived, IsOperand, IsModifier, IsFunction, UseFits, UsesFit, LastOperand, MayStandBeforeArrow}
-use Rattle.bqn_syntax.specs.Plain.{Part, Use, One, Two, no_uses, and_uses, uses}
+use Rattle.bqn_syntax.specs.grammar.Sorts.{tag as tag_of}
+use Rattle.bqn_syntax.specs.grammar.Items.{Item, Drawn, Term, Operand, Target, Draw}
+use Rattle.bqn_syntax.specs.grammar.Units.{Unit', Subject, Function, Absent, Alone, Arrow', Aim, Binding, Free, Bound, Wanting, Row, row, alone, unit_of, closed, operand, modified, modified_twice, beside, bind_part, bind, binds, bound, units_of}
+use Rattle.bqn_syntax.specs.grammar.Well.{WellPart, WellPattern, WellUses, WellUse, WellDerived, IsOperand, IsModifier, IsFunction, UseFits, UsesFit, LastOperand, MayStandBeforeArrow}
+use Rattle.bqn_syntax.specs.grammar.Trees.{Part, Use, One, Two, no_uses, and_uses, uses}
 use Rattle.bqn_grammar.proofs.TreeItems.{part_items, pattern_items, use_items, uses_items, derived_items}
 use Rattle.bqn_grammar.proofs.OnlyElements.{map_some, and_then_some}
 use Rattle.bqn_grammar.proofs.OnlyTerms.{term_items, terms_items, IsAim, GoodTerm, GoodTerms, FollowedBy, TermsFit, TermsRead}

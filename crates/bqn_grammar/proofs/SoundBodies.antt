@@ -8,15 +8,15 @@ use Rattle.bqn_syntax.specs.declared.token.Kind.TheVariants as kind
 use Rattle.bqn_syntax.specs.declared.sort.Sort.TheVariants.{Ends, Heads, Asks}
 use Rattle.bqn_syntax.specs.declared.sort.Inside.{Inside}
 use Rattle.bqn_syntax.specs.declared.sort.Inside.TheVariants as inside
-use Rattle.bqn_syntax.specs.Sorts.{sort_of}
-use Rattle.bqn_syntax.specs.Looks.{Looks}
-use Rattle.bqn_syntax.specs.Items.{Item}
-use Rattle.bqn_syntax.specs.Expressions.{piece_predicate}
-use Rattle.bqn_syntax.specs.Headers.{header_in}
-use Rattle.bqn_syntax.specs.Classes.{is_predicate}
-use Rattle.bqn_syntax.specs.Parsing.{Level, Levels, levels, and_statement, and_header, and_body, is_first_piece, go_on, ended, body_ended, semicolon, asked, question, before, tokens_before, known_header, headed, headed_by, colon}
-use Rattle.bqn_syntax.specs.Spells.{Sign, Mark, Gap, Fits, mark, no_more, header_signs, stmt_signs, stmts_signs, body_signs}
-use Rattle.bqn_syntax.specs.Plain.{Header, Stmt, stmts, body}
+use Rattle.bqn_syntax.specs.grammar.Sorts.{sort_of}
+use Rattle.bqn_syntax.specs.grammar.Looks.{Looks}
+use Rattle.bqn_syntax.specs.grammar.Items.{Item}
+use Rattle.bqn_syntax.specs.grammar.Expressions.{piece_predicate}
+use Rattle.bqn_syntax.specs.grammar.Headers.{header_in}
+use Rattle.bqn_syntax.specs.grammar.Classes.{is_predicate}
+use Rattle.bqn_syntax.specs.grammar.Parsing.{Level, Levels, levels, and_statement, and_header, and_body, is_first_piece, go_on, ended, body_ended, semicolon, asked, question, before, tokens_before, known_header, headed, headed_by, colon}
+use Rattle.bqn_syntax.specs.grammar.Spells.{Sign, Mark, Gap, Fits, mark, no_more, header_signs, stmt_signs, stmts_signs, body_signs}
+use Rattle.bqn_syntax.specs.grammar.Trees.{Header, Stmt, stmts, body}
 use Rattle.bqn_grammar.proofs.TreeItems.{ItemDepths}
 use Rattle.bqn_grammar.proofs.SoundSigns.{items_signs, predicate_spelled}
 use Rattle.bqn_grammar.proofs.SoundSorts.{mark_of}

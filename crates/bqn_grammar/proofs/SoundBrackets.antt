@@ -9,12 +9,12 @@ use Rattle.bqn_syntax.specs.declared.sort.Bracket.TheVariants.{Round, Angle, Squ
 use Rattle.bqn_syntax.specs.declared.sort.Sort.TheVariants.{Opens, Closes}
 use Rattle.bqn_syntax.specs.declared.sort.Inside.{Inside}
 use Rattle.bqn_syntax.specs.declared.sort.Inside.TheVariants as inside
-use Rattle.bqn_syntax.specs.Sorts.{sort_of}
-use Rattle.bqn_syntax.specs.Looks.{Ahead, Looks, first_of, rest_of}
-use Rattle.bqn_syntax.specs.Items.{Element, Standing}
-use Rattle.bqn_syntax.specs.Parsing.{Level, Levels, levels, fresh, begun, and_item, is_first_piece, list_inside, inside_of, closes, whole, whole_of, handed, opened, closed, ended}
+use Rattle.bqn_syntax.specs.grammar.Sorts.{sort_of}
+use Rattle.bqn_syntax.specs.grammar.Looks.{Ahead, Looks, first_of, rest_of}
+use Rattle.bqn_syntax.specs.grammar.Items.{Element, Standing}
+use Rattle.bqn_syntax.specs.grammar.Parsing.{Level, Levels, levels, fresh, begun, and_item, is_first_piece, list_inside, inside_of, closes, whole, whole_of, handed, opened, closed, ended}
 use Rattle.bqn_base.specs.declared.refusal.Refusal.TheVariants as refusal
-use Rattle.bqn_syntax.specs.Spells.{Sign, Fits, no_more}
+use Rattle.bqn_syntax.specs.grammar.Spells.{Sign, Fits, no_more}
 use Rattle.bqn_grammar.proofs.SoundSorts.{mark_of, token_at}
 use Rattle.bqn_grammar.proofs.SoundLevels.{Pieces, Within, WithinAt, suffix_all, suffix_one, suffix_more, CleanItem, literals_in, gap_in, next_signs, end_signs, Kept, At, OpenedBy, ListMay, Around}
 use Rattle.bqn_grammar.proofs.SoundEnds.{ended_only}

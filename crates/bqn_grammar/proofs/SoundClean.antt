@@ -1,10 +1,10 @@
 -- A piece that has a form has no wrong item.
 use Rattle.std.proofs.Common.{◌≡◌, Bool, List, [], ◌∷◌, ◌++◌, Option, Some, None, refl}
 use Rattle.std.specs.Option.{option_map, option_and_then}
-use Rattle.bqn_syntax.specs.Items.{Element, Item, Standing, Joining, Wrong, Terms, reads, Between, put, puts, finished, terms_of, groups, onto_first, only_group, piece_pattern}
-use Rattle.bqn_syntax.specs.Units.{units_of}
-use Rattle.bqn_syntax.specs.Expressions.{expression, statement, predicate, units_in, piece_expression, piece_statement, piece_predicate}
-use Rattle.bqn_syntax.specs.Plain.{Pattern, Expr, Stmt}
+use Rattle.bqn_syntax.specs.grammar.Items.{Element, Item, Standing, Joining, Wrong, Terms, reads, Between, put, puts, finished, terms_of, groups, onto_first, only_group, piece_pattern}
+use Rattle.bqn_syntax.specs.grammar.Units.{units_of}
+use Rattle.bqn_syntax.specs.grammar.Expressions.{expression, statement, predicate, units_in, piece_expression, piece_statement, piece_predicate}
+use Rattle.bqn_syntax.specs.grammar.Trees.{Pattern, Expr, Stmt}
 use Rattle.bqn_grammar.proofs.SoundLevels.{Clean}
 
 pub and_then_some : {A B : Type 0} (f : A → Option B) (m : Option A) (y : B) → option_and_then f m ≡ Some y → (x : A) × (m ≡ Some x) × (f x ≡ Some y)

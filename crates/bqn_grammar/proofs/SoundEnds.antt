@@ -5,14 +5,14 @@ use Rattle.bqn_syntax.specs.declared.token.Token.{Token}
 use Rattle.bqn_syntax.specs.declared.sort.Sort.TheVariants.{Separates}
 use Rattle.bqn_syntax.specs.declared.sort.Inside.{Inside}
 use Rattle.bqn_syntax.specs.declared.sort.Inside.TheVariants as inside
-use Rattle.bqn_syntax.specs.Sorts.{sort_of}
-use Rattle.bqn_syntax.specs.Items.{Item, piece_pattern}
-use Rattle.bqn_syntax.specs.Expressions.{piece_expression, piece_statement}
-use Rattle.bqn_syntax.specs.Classes.{is_predicate}
-use Rattle.bqn_syntax.specs.Parsing.{Level, and_expression, and_target, and_statement, well, judged, no_piece, ended_by, ended}
-use Rattle.bqn_syntax.specs.Spells.{Sign, Apart, Gap, Fits, apart, one_more, pattern_signs, expr_signs, stmt_signs, body_signs}
-use Rattle.bqn_syntax.specs.Well.{WellExpr, WellPattern, WellStmt, expr_depth, pattern_depth, stmt_depth}
-use Rattle.bqn_syntax.specs.Plain.{Pattern, Expr, Stmt}
+use Rattle.bqn_syntax.specs.grammar.Sorts.{sort_of}
+use Rattle.bqn_syntax.specs.grammar.Items.{Item, piece_pattern}
+use Rattle.bqn_syntax.specs.grammar.Expressions.{piece_expression, piece_statement}
+use Rattle.bqn_syntax.specs.grammar.Classes.{is_predicate}
+use Rattle.bqn_syntax.specs.grammar.Parsing.{Level, and_expression, and_target, and_statement, well, judged, no_piece, ended_by, ended}
+use Rattle.bqn_syntax.specs.grammar.Spells.{Sign, Apart, Gap, Fits, apart, one_more, pattern_signs, expr_signs, stmt_signs, body_signs}
+use Rattle.bqn_syntax.specs.grammar.Well.{WellExpr, WellPattern, WellStmt, expr_depth, pattern_depth, stmt_depth}
+use Rattle.bqn_syntax.specs.grammar.Trees.{Pattern, Expr, Stmt}
 use Rattle.bqn_grammar.proofs.TreeItems.{GoodItems, ItemDepths}
 use Rattle.bqn_grammar.proofs.SoundSigns.{items_signs, pattern_spelled, expr_spelled, stmt_spelled}
 use Rattle.bqn_grammar.proofs.SoundLevels.{Pieces, Suffix, suffix_more, nexts, by_apart, by_nothing, by_semicolon, lead, stmts_next, header_next, next_signs, end_signs, gap_in, Separable, in_block, in_header, literals_in, Kept, Read, Piece, Begins, At, Ended, fits_eq, into_gap}

@@ -7,12 +7,12 @@ use Rattle.bqn_syntax.specs.declared.token.Kind.TheVariants as kind
 use Rattle.bqn_syntax.specs.declared.token.Token.{Token}
 use Rattle.bqn_syntax.specs.declared.sort.Tag.{Tag}
 use Rattle.bqn_syntax.specs.declared.sort.Tag.TheVariants as tag
-use Rattle.bqn_syntax.specs.Sorts.{token_named, is_name}
-use Rattle.bqn_syntax.specs.Items.{Element, OfPart, Item, Standing, Joining, group_pattern, groups, onto_first, only_group, piece_pattern}
-use Rattle.bqn_syntax.specs.Headers.{own_tag, lone_token, token_tag, group_tag, is_left_operand, is_right_operand, left_operand, right_operand, outermost_name, outermost_pattern, header_pattern, is_left, is_right, special_or, left_argument, right_argument, with_right, function_form, operand_form, without_left, left_of, with_left, or_left, header_form}
-use Rattle.bqn_syntax.specs.Spells.{Sign, Exact, pattern_signs, token_signs, argument_signs, header_signs}
-use Rattle.bqn_syntax.specs.Well.{IsOutermost, IsArgument, special, pattern, ArgumentFits, SelfFits, WellHeader, pattern_depth, argument_depth, header_depth}
-use Rattle.bqn_syntax.specs.Plain.{Pattern, Name, Skip, Literal, ListPattern, StrandPattern, Header, Leaf}
+use Rattle.bqn_syntax.specs.grammar.Sorts.{token_named, is_name}
+use Rattle.bqn_syntax.specs.grammar.Items.{Element, OfPart, Item, Standing, Joining, group_pattern, groups, onto_first, only_group, piece_pattern}
+use Rattle.bqn_syntax.specs.grammar.Headers.{own_tag, lone_token, token_tag, group_tag, is_left_operand, is_right_operand, left_operand, right_operand, outermost_name, outermost_pattern, header_pattern, is_left, is_right, special_or, left_argument, right_argument, with_right, function_form, operand_form, without_left, left_of, with_left, or_left, header_form}
+use Rattle.bqn_syntax.specs.grammar.Spells.{Sign, Exact, pattern_signs, token_signs, argument_signs, header_signs}
+use Rattle.bqn_syntax.specs.grammar.Well.{IsOutermost, IsArgument, special, pattern, ArgumentFits, SelfFits, WellHeader, pattern_depth, argument_depth, header_depth}
+use Rattle.bqn_syntax.specs.grammar.Trees.{Pattern, Name, Skip, Literal, ListPattern, StrandPattern, Header, Leaf}
 use Rattle.bqn_grammar.proofs.TreeItems.{GoodItems, ItemDepths}
 use Rattle.bqn_grammar.proofs.SoundSigns.{items_signs, items_after, pattern_spelled}
 use Rattle.bqn_grammar.proofs.SoundLevels.{Pieces}

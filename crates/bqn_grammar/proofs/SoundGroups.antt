@@ -10,12 +10,12 @@ use Rattle.bqn_syntax.specs.declared.sort.Bracket.TheVariants.{Round, Angle, Squ
 use Rattle.bqn_syntax.specs.declared.sort.Sort.TheVariants.{Closes}
 use Rattle.bqn_syntax.specs.declared.sort.Inside.{Inside}
 use Rattle.bqn_syntax.specs.declared.sort.Inside.TheVariants as inside
-use Rattle.bqn_syntax.specs.Items.{Element, OfPart, OfList}
-use Rattle.bqn_syntax.specs.Classes.{marks_in, class_of}
-use Rattle.bqn_syntax.specs.Parsing.{Level, and_body, closes, block_part, parens_part, merge_part, whole}
-use Rattle.bqn_syntax.specs.Spells.{Sign, Exact, Mark, Gap, Fits, exact, mark, no_more, mark_at, expr_signs, exprs_signs, body_signs, bodies_signs}
-use Rattle.bqn_syntax.specs.Well.{WellPattern, WellPatterns, WellJoined, WellExprs, IsSomeBodies, WellBodies, expr_depth, exprs_depth, patterns_depth, bodies_depth, header_depth, stmts_depth}
-use Rattle.bqn_syntax.specs.Plain.{Elements, Merge, Paren, Pattern, Name, Skip, Literal, ListPattern, StrandPattern, Patterns, no_patterns, and_patterns, patterns, Expr, exprs, stmts, Block, block, BodyTree, body, Bodies, bodies}
+use Rattle.bqn_syntax.specs.grammar.Items.{Element, OfPart, OfList}
+use Rattle.bqn_syntax.specs.grammar.Classes.{marks_in, class_of}
+use Rattle.bqn_syntax.specs.grammar.Parsing.{Level, and_body, closes, block_part, parens_part, merge_part, whole}
+use Rattle.bqn_syntax.specs.grammar.Spells.{Sign, Exact, Mark, Gap, Fits, exact, mark, no_more, mark_at, expr_signs, exprs_signs, body_signs, bodies_signs}
+use Rattle.bqn_syntax.specs.grammar.Well.{WellPattern, WellPatterns, WellJoined, WellExprs, IsSomeBodies, WellBodies, expr_depth, exprs_depth, patterns_depth, bodies_depth, header_depth, stmts_depth}
+use Rattle.bqn_syntax.specs.grammar.Trees.{Elements, Merge, Paren, Pattern, Name, Skip, Literal, ListPattern, StrandPattern, Patterns, no_patterns, and_patterns, patterns, Expr, exprs, stmts, Block, block, BodyTree, body, Bodies, bodies}
 use Rattle.bqn_grammar.proofs.TreeItems.{GoodElement, ElementDepth}
 use Rattle.bqn_grammar.proofs.SoundSigns.{element_signs}
 use Rattle.bqn_grammar.proofs.SoundSorts.{sort_code}

@@ -6,12 +6,12 @@ use Rattle.bqn_syntax.specs.declared.token.Kind.TheVariants as kind
 use Rattle.bqn_syntax.specs.declared.sort.Bracket.TheVariants.{Angle}
 use Rattle.bqn_syntax.specs.declared.sort.Sort.{Sort}
 use Rattle.bqn_syntax.specs.declared.sort.Sort.TheVariants.{Opens, Closes, Separates, Joins, Skips, Stands}
-use Rattle.bqn_syntax.specs.Sorts.{sort_of}
-use Rattle.bqn_syntax.specs.Items.{OfPart, OfList, Item, Standing, Joining, groups, piece_pattern}
-use Rattle.bqn_syntax.specs.Headers.{OpenList, open_list, and_item, end_of_piece, Lists, lists, list_closes, list_goes_on, header_step, outermost, header_items, header_form, header_in}
-use Rattle.bqn_syntax.specs.Spells.{Sign, Exact, Mark, Apart, Gap, Fits, exact, mark, apart, one_more, no_more, mark_at, pattern_signs, listed_signs}
-use Rattle.bqn_syntax.specs.Well.{WellPatterns, patterns_depth}
-use Rattle.bqn_syntax.specs.Plain.{Pattern, ListPattern, patterns, Header, Leaf, Nothing}
+use Rattle.bqn_syntax.specs.grammar.Sorts.{sort_of}
+use Rattle.bqn_syntax.specs.grammar.Items.{OfPart, OfList, Item, Standing, Joining, groups, piece_pattern}
+use Rattle.bqn_syntax.specs.grammar.Headers.{OpenList, open_list, and_item, end_of_piece, Lists, lists, list_closes, list_goes_on, header_step, outermost, header_items, header_form, header_in}
+use Rattle.bqn_syntax.specs.grammar.Spells.{Sign, Exact, Mark, Apart, Gap, Fits, exact, mark, apart, one_more, no_more, mark_at, pattern_signs, listed_signs}
+use Rattle.bqn_syntax.specs.grammar.Well.{WellPatterns, patterns_depth}
+use Rattle.bqn_syntax.specs.grammar.Trees.{Pattern, ListPattern, patterns, Header, Leaf, Nothing}
 use Rattle.bqn_grammar.proofs.TreeItems.{GoodItem, GoodItems, ItemDepth, ItemDepths}
 use Rattle.bqn_grammar.proofs.SoundSigns.{item_signs, items_signs, items_after, pattern_spelled}
 use Rattle.bqn_grammar.proofs.SoundSorts.{mark_of, token_at}

@@ -3,9 +3,9 @@ use Rattle.std.proofs.Common.{◌≡◌, ℕ, Bool, List, [], ◌∷◌, ◌++�
 use Rattle.bqn_syntax.specs.declared.token.Token.{Token}
 use Rattle.bqn_syntax.specs.declared.sort.Inside.{Inside}
 use Rattle.bqn_syntax.specs.declared.sort.Inside.TheVariants as inside
-use Rattle.bqn_syntax.specs.Items.{Item}
-use Rattle.bqn_syntax.specs.Parsing.{Level, or_first, begun, and_item}
-use Rattle.bqn_syntax.specs.Spells.{Sign, Fits}
+use Rattle.bqn_syntax.specs.grammar.Items.{Item}
+use Rattle.bqn_syntax.specs.grammar.Parsing.{Level, or_first, begun, and_item}
+use Rattle.bqn_syntax.specs.grammar.Spells.{Sign, Fits}
 use Rattle.bqn_grammar.proofs.TreeItems.{GoodItem, GoodItems, ItemDepth, ItemDepths}
 use Rattle.bqn_grammar.proofs.SoundSigns.{item_signs, items_after}
 use Rattle.bqn_grammar.proofs.SoundLevels.{Suffix, suffix_more, CleanItem, Clean, literals_in, next_signs, end_signs, gap_in, Kept, Read, Piece, Begins, At, Outer, fits_eq}

@@ -7,15 +7,15 @@ use Rattle.bqn_syntax.specs.declared.sort.Sort.{Sort}
 use Rattle.bqn_syntax.specs.declared.sort.Sort.TheVariants.{Opens, Closes, Separates}
 use Rattle.bqn_syntax.specs.declared.sort.Inside.{Inside}
 use Rattle.bqn_syntax.specs.declared.sort.Inside.TheVariants as inside
-use Rattle.bqn_syntax.specs.Sorts.{sort_of}
-use Rattle.bqn_syntax.specs.Looks.{Ahead, Looks, first_of, rest_of}
-use Rattle.bqn_syntax.specs.Items.{Item, Wrong, piece_pattern}
-use Rattle.bqn_syntax.specs.Expressions.{piece_expression, piece_statement, piece_predicate}
-use Rattle.bqn_syntax.specs.Classes.{is_predicate}
-use Rattle.bqn_syntax.specs.Parsing.{Level, Levels}
-use Rattle.bqn_syntax.specs.Spells.{Sign, Mark, Apart, Gap, Fits, no_more, mark_at, pattern_signs, header_signs, expr_signs, stmt_signs, stmts_signs, body_signs, listed_signs, exprs_signs}
-use Rattle.bqn_syntax.specs.Well.{WellExpr, WellExprs, WellPattern, WellPatterns, WellStmt, WellStmts, WellBodies, WellHeader, HeaderFits, expr_depth, exprs_depth, pattern_depth, patterns_depth, stmt_depth, stmts_depth, bodies_depth, header_depth}
-use Rattle.bqn_syntax.specs.Plain.{Pattern, patterns, Header, Expr, exprs, Stmt, stmts, bodies}
+use Rattle.bqn_syntax.specs.grammar.Sorts.{sort_of}
+use Rattle.bqn_syntax.specs.grammar.Looks.{Ahead, Looks, first_of, rest_of}
+use Rattle.bqn_syntax.specs.grammar.Items.{Item, Wrong, piece_pattern}
+use Rattle.bqn_syntax.specs.grammar.Expressions.{piece_expression, piece_statement, piece_predicate}
+use Rattle.bqn_syntax.specs.grammar.Classes.{is_predicate}
+use Rattle.bqn_syntax.specs.grammar.Parsing.{Level, Levels}
+use Rattle.bqn_syntax.specs.grammar.Spells.{Sign, Mark, Apart, Gap, Fits, no_more, mark_at, pattern_signs, header_signs, expr_signs, stmt_signs, stmts_signs, body_signs, listed_signs, exprs_signs}
+use Rattle.bqn_syntax.specs.grammar.Well.{WellExpr, WellExprs, WellPattern, WellPatterns, WellStmt, WellStmts, WellBodies, WellHeader, HeaderFits, expr_depth, exprs_depth, pattern_depth, patterns_depth, stmt_depth, stmts_depth, bodies_depth, header_depth}
+use Rattle.bqn_syntax.specs.grammar.Trees.{Pattern, patterns, Header, Expr, exprs, Stmt, stmts, bodies}
 use Rattle.bqn_grammar.proofs.TreeItems.{pattern_items, expr_items, GoodItems, ItemDepths}
 use Rattle.bqn_grammar.proofs.SoundSigns.{items_signs, stmt_items}
 

@@ -1,9 +1,9 @@
 -- One more piece behind those that a level has read.
 use Rattle.std.proofs.Common.{◌≡◌, ◌≤◌, ℕ, max, Bool, true, false, List, [], ◌∷◌, ◌++◌, Option, Some, None, refl, ap, ◌∙◌, arith}
-use Rattle.bqn_syntax.specs.Classes.{is_predicate}
-use Rattle.bqn_syntax.specs.Spells.{Sign, Mark, Apart, Gap, pattern_signs, listed_signs, listed_more, expr_signs, exprs_signs, exprs_more, stmt_signs, stmts_signs, body_signs, bodies_signs, bodies_more}
-use Rattle.bqn_syntax.specs.Well.{WellExpr, WellExprs, WellPattern, WellPatterns, WellStmt, WellStmts, WellBody, WellBodies, expr_depth, exprs_depth, pattern_depth, patterns_depth, stmt_depth, stmts_depth, body_depth, bodies_depth}
-use Rattle.bqn_syntax.specs.Plain.{Pattern, patterns, Header, Expr, exprs, Stmt, Eval, Predicate, Export, stmts, Stmts, no_stmts, and_stmts, BodyTree, body, bodies}
+use Rattle.bqn_syntax.specs.grammar.Classes.{is_predicate}
+use Rattle.bqn_syntax.specs.grammar.Spells.{Sign, Mark, Apart, Gap, pattern_signs, listed_signs, listed_more, expr_signs, exprs_signs, exprs_more, stmt_signs, stmts_signs, body_signs, bodies_signs, bodies_more}
+use Rattle.bqn_syntax.specs.grammar.Well.{WellExpr, WellExprs, WellPattern, WellPatterns, WellStmt, WellStmts, WellBody, WellBodies, expr_depth, exprs_depth, pattern_depth, patterns_depth, stmt_depth, stmts_depth, body_depth, bodies_depth}
+use Rattle.bqn_syntax.specs.grammar.Trees.{Pattern, patterns, Header, Expr, exprs, Stmt, Eval, Predicate, Export, stmts, Stmts, no_stmts, and_stmts, BodyTree, body, bodies}
 use Rattle.bqn_grammar.proofs.SoundLevels.{nexts, by_apart, by_semicolon, lead, stmts_next, header_next}
 
 pub well_exprs : (es : List Expr) (e : Expr) → WellExprs (exprs es) → WellExpr e → WellExprs (exprs (es ++ e ∷ []))

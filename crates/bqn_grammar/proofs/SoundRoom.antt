@@ -9,11 +9,11 @@ use Rattle.bqn_syntax.specs.declared.sort.Sort.{Sort}
 use Rattle.bqn_syntax.specs.declared.sort.Sort.TheVariants.{Opens, Closes, Separates, Draws, Joins, Selects, Ends, Heads, Asks, Skips, Stands}
 use Rattle.bqn_syntax.specs.declared.sort.Inside.{Inside}
 use Rattle.bqn_syntax.specs.declared.sort.Inside.TheVariants as inside
-use Rattle.bqn_syntax.specs.Sorts.{sort_of}
-use Rattle.bqn_syntax.specs.Looks.{Ahead, behind_group}
-use Rattle.bqn_syntax.specs.Items.{OfPart, Item, Standing, Drawn, Joining, Selecting, Wrong}
-use Rattle.bqn_syntax.specs.Parsing.{Level, Levels, levels, fresh, begun, and_item, inside_of, closes, go_on, taken, opened, closed, ended, separated, body_ended, semicolon, asked, question, headed_by, colon, step, walk}
-use Rattle.bqn_syntax.specs.Plain.{Leaf, Nothing, Stmts}
+use Rattle.bqn_syntax.specs.grammar.Sorts.{sort_of}
+use Rattle.bqn_syntax.specs.grammar.Looks.{Ahead, behind_group}
+use Rattle.bqn_syntax.specs.grammar.Items.{OfPart, Item, Standing, Drawn, Joining, Selecting, Wrong}
+use Rattle.bqn_syntax.specs.grammar.Parsing.{Level, Levels, levels, fresh, begun, and_item, inside_of, closes, go_on, taken, opened, closed, ended, separated, body_ended, semicolon, asked, question, headed_by, colon, step, walk}
+use Rattle.bqn_syntax.specs.grammar.Trees.{Leaf, Nothing, Stmts}
 use Rattle.bqn_grammar.proofs.SoundLevels.{Within, WithinAt}
 use Rattle.bqn_grammar.proofs.SoundBrackets.{opened_ok, closed_ok}
 use Rattle.bqn_grammar.proofs.SoundSteps.{go_on_ok}

@@ -3,10 +3,10 @@ use Rattle.std.proofs.Common.{◌≡◌, true, false, List, [], ◌∷◌, ◌++
 use Rattle.bqn_syntax.specs.declared.token.Token.{Token}
 use Rattle.bqn_syntax.specs.declared.tree.Arrow.{Arrow}
 use Rattle.bqn_syntax.specs.declared.tree.Arrow.TheVariants as arrow
-use Rattle.bqn_syntax.specs.Items.{Element, OfPart, OfList, Item, Standing, Drawn, Joining, Selecting, Wrong}
-use Rattle.bqn_syntax.specs.Classes.{is_predicate}
-use Rattle.bqn_syntax.specs.Spells.{Sign, Exact, Mark, arrow_code, pattern_signs, joined_signs, joined_more, target_signs, name_signs, expr_signs, part_signs, maybe_signs, steps_signs, step_signs, derived_signs, uses_signs, use_signs, deriveds_signs, parts_signs, parts_more, stmt_signs}
-use Rattle.bqn_syntax.specs.Plain.{Pattern, Name, Skip, Literal, ListPattern, StrandPattern, Patterns, no_patterns, and_patterns, Expr, Value, Train, Modifier, Use, One, Two, Part, Leaf, Elements, Merge, Paren, Block, Field, Strand, Nothing, Step, Apply, Assign, Modify, Stmt, Eval, Predicate, Export, Derived, derived, MaybePart, none, some, Uses, no_uses, and_uses, Parts, no_parts, and_parts, Steps, no_steps, and_steps, Deriveds, no_deriveds, and_deriveds}
+use Rattle.bqn_syntax.specs.grammar.Items.{Element, OfPart, OfList, Item, Standing, Drawn, Joining, Selecting, Wrong}
+use Rattle.bqn_syntax.specs.grammar.Classes.{is_predicate}
+use Rattle.bqn_syntax.specs.grammar.Spells.{Sign, Exact, Mark, arrow_code, pattern_signs, joined_signs, joined_more, target_signs, name_signs, expr_signs, part_signs, maybe_signs, steps_signs, step_signs, derived_signs, uses_signs, use_signs, deriveds_signs, parts_signs, parts_more, stmt_signs}
+use Rattle.bqn_syntax.specs.grammar.Trees.{Pattern, Name, Skip, Literal, ListPattern, StrandPattern, Patterns, no_patterns, and_patterns, Expr, Value, Train, Modifier, Use, One, Two, Part, Leaf, Elements, Merge, Paren, Block, Field, Strand, Nothing, Step, Apply, Assign, Modify, Stmt, Eval, Predicate, Export, Derived, derived, MaybePart, none, some, Uses, no_uses, and_uses, Parts, no_parts, and_parts, Steps, no_steps, and_steps, Deriveds, no_deriveds, and_deriveds}
 use Rattle.bqn_grammar.proofs.TreeItems.{pattern_items, joined_items, joined_more_items, name_items, target_items, part_items, parts_items, parts_more_items, maybe_items, use_items, uses_items, derived_items, deriveds_items, step_items, steps_items, expr_items}
 
 abbrev pub element_signs : Element → List Sign → List Sign

@@ -12,8 +12,8 @@ use Rattle.bqn_syntax.specs.declared.tree.Arrow.TheVariants.{Define, Export, Cha
 use Rattle.bqn_syntax.specs.declared.sort.Bracket.TheVariants.{Round, Angle, Square, Curly}
 use Rattle.bqn_syntax.specs.declared.sort.Sort.{Sort}
 use Rattle.bqn_syntax.specs.declared.sort.Sort.TheVariants.{Opens, Closes, Separates, Draws, Joins, Selects, Ends, Heads, Asks, Skips, Stands}
-use Rattle.bqn_syntax.specs.Sorts.{punct_sort, sort_of}
-use Rattle.bqn_syntax.specs.Spells.{arrow_code, mark_at}
+use Rattle.bqn_syntax.specs.grammar.Sorts.{punct_sort, sort_of}
+use Rattle.bqn_syntax.specs.grammar.Spells.{arrow_code, mark_at}
 
 -- the mark of a sort that has one mark
 abbrev pub sort_code : Sort → ℕ

@@ -7,12 +7,12 @@ use Rattle.bqn_syntax.specs.declared.tree.Arrow.{Arrow}
 use Rattle.bqn_syntax.specs.declared.sort.Sort.TheVariants.{Separates, Draws, Joins, Selects, Skips, Stands}
 use Rattle.bqn_syntax.specs.declared.sort.Inside.{Inside}
 use Rattle.bqn_syntax.specs.declared.sort.Inside.TheVariants as inside
-use Rattle.bqn_syntax.specs.Sorts.{sort_of}
-use Rattle.bqn_syntax.specs.Looks.{Looks}
-use Rattle.bqn_syntax.specs.Items.{OfPart, Item, Standing, Drawn, Joining, Selecting, Wrong}
-use Rattle.bqn_syntax.specs.Parsing.{Level, Levels, levels, begun, and_item, go_on, taken, separated, ended}
-use Rattle.bqn_syntax.specs.Spells.{Sign, Exact, Fits, exact, mark, mark_at}
-use Rattle.bqn_syntax.specs.Plain.{Leaf, Nothing}
+use Rattle.bqn_syntax.specs.grammar.Sorts.{sort_of}
+use Rattle.bqn_syntax.specs.grammar.Looks.{Looks}
+use Rattle.bqn_syntax.specs.grammar.Items.{OfPart, Item, Standing, Drawn, Joining, Selecting, Wrong}
+use Rattle.bqn_syntax.specs.grammar.Parsing.{Level, Levels, levels, begun, and_item, go_on, taken, separated, ended}
+use Rattle.bqn_syntax.specs.grammar.Spells.{Sign, Exact, Fits, exact, mark, mark_at}
+use Rattle.bqn_syntax.specs.grammar.Trees.{Leaf, Nothing}
 use Rattle.bqn_grammar.proofs.SoundSigns.{items_signs}
 use Rattle.bqn_grammar.proofs.TreeItems.{GoodItems, ItemDepths}
 use Rattle.bqn_grammar.proofs.SoundSorts.{mark_of, token_at}

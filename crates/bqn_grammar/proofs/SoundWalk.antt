@@ -7,15 +7,15 @@ use Rattle.bqn_syntax.specs.declared.sort.Sort.{Sort}
 use Rattle.bqn_syntax.specs.declared.sort.Sort.TheVariants.{Opens, Closes, Separates, Draws, Joins, Selects, Ends, Heads, Asks, Skips, Stands}
 use Rattle.bqn_syntax.specs.declared.sort.Inside.{Inside}
 use Rattle.bqn_syntax.specs.declared.sort.Inside.TheVariants as inside
-use Rattle.bqn_syntax.specs.Sorts.{sort_of}
-use Rattle.bqn_syntax.specs.Brackets.{partners_of}
-use Rattle.bqn_syntax.specs.Looks.{Ahead, Looks, first_of, rest_of, look, looks_of, behind_group}
-use Rattle.bqn_syntax.specs.Items.{OfPart, Standing, Drawn, Joining, Selecting}
-use Rattle.bqn_syntax.specs.Parsing.{Level, Levels, levels, fresh, ended, step, nowhere, program_of, walk}
-use Rattle.bqn_syntax.specs.Spells.{done, no_more, Spells}
-use Rattle.bqn_syntax.specs.Well.{stmts_depth}
-use Rattle.bqn_syntax.specs.Grammar.{WellSpelled, OnlyWellTreesAreFound}
-use Rattle.bqn_syntax.specs.Plain.{Leaf, Nothing, Stmts, stmts}
+use Rattle.bqn_syntax.specs.grammar.Sorts.{sort_of}
+use Rattle.bqn_syntax.specs.grammar.Brackets.{partners_of}
+use Rattle.bqn_syntax.specs.grammar.Looks.{Ahead, Looks, first_of, rest_of, look, looks_of, behind_group}
+use Rattle.bqn_syntax.specs.grammar.Items.{OfPart, Standing, Drawn, Joining, Selecting}
+use Rattle.bqn_syntax.specs.grammar.Parsing.{Level, Levels, levels, fresh, ended, step, nowhere, program_of, walk}
+use Rattle.bqn_syntax.specs.grammar.Spells.{done, no_more, Spells}
+use Rattle.bqn_syntax.specs.grammar.Well.{stmts_depth}
+use Rattle.bqn_syntax.specs.grammar.Grammar.{WellSpelled, OnlyWellTreesAreFound}
+use Rattle.bqn_syntax.specs.grammar.Trees.{Leaf, Nothing, Stmts, stmts}
 use Rattle.bqn_grammar.proofs.SoundLevels.{Pieces, Within, WithinAt, literals_in, Around, State, Ended}
 use Rattle.bqn_grammar.proofs.SoundEnds.{ended_only}
 use Rattle.bqn_grammar.proofs.SoundSteps.{Stepped, taken_step, leaf_spelling, skip_spelling, drawn_spelling, joins_spelling, selects_spelling, separated_step}

@@ -6,12 +6,12 @@ use Rattle.bqn_syntax.specs.declared.tree.Arrow.{Arrow}
 use Rattle.bqn_syntax.specs.declared.sort.Bracket.TheVariants.{Round, Angle, Square, Curly}
 use Rattle.bqn_syntax.specs.declared.sort.Sort.{Sort}
 use Rattle.bqn_syntax.specs.declared.sort.Sort.TheVariants.{Opens, Closes, Separates, Draws, Joins, Selects, Ends, Heads, Asks, Skips, Stands}
-use Rattle.bqn_syntax.specs.Sorts.{sort_of, punct_sort}
-use Rattle.bqn_syntax.specs.Looks.{Looks, look, looks_of}
-use Rattle.bqn_syntax.specs.Spells.{Sign, Exact, Mark, Apart, Gap, Fits, apart, one_more, no_more, arrow_code, mark_at, pattern_signs, joined_more, name_signs, expr_signs, part_signs, derived_signs, uses_signs, deriveds_signs, exprs_signs, parts_signs, parts_more, block_signs}
-use Rattle.bqn_syntax.specs.Well.{WellPattern, WellJoined, NamesFit, WellExpr, WellPart, WellDerived, WellUses, WellDeriveds, WellExprs, WellParts, WellBlock}
-use Rattle.bqn_syntax.specs.Plain.{Pattern, Name, Skip, Literal, ListPattern, StrandPattern, Patterns, no_patterns, and_patterns, Expr, One, Two, Part, Leaf, Elements, Merge, Paren, Block, Field, Strand, Nothing, BlockTree, block, Derived, derived, Exprs, Uses, no_uses, and_uses, Parts, no_parts, and_parts, Deriveds, no_deriveds, and_deriveds}
-use Rattle.bqn_syntax.specs.Well.{IsNoStrand, IsBase, IsElement, AreTwoParts}
+use Rattle.bqn_syntax.specs.grammar.Sorts.{sort_of, punct_sort}
+use Rattle.bqn_syntax.specs.grammar.Looks.{Looks, look, looks_of}
+use Rattle.bqn_syntax.specs.grammar.Spells.{Sign, Exact, Mark, Apart, Gap, Fits, apart, one_more, no_more, arrow_code, mark_at, pattern_signs, joined_more, name_signs, expr_signs, part_signs, derived_signs, uses_signs, deriveds_signs, exprs_signs, parts_signs, parts_more, block_signs}
+use Rattle.bqn_syntax.specs.grammar.Well.{WellPattern, WellJoined, NamesFit, WellExpr, WellPart, WellDerived, WellUses, WellDeriveds, WellExprs, WellParts, WellBlock}
+use Rattle.bqn_syntax.specs.grammar.Trees.{Pattern, Name, Skip, Literal, ListPattern, StrandPattern, Patterns, no_patterns, and_patterns, Expr, One, Two, Part, Leaf, Elements, Merge, Paren, Block, Field, Strand, Nothing, BlockTree, block, Derived, derived, Exprs, Uses, no_uses, and_uses, Parts, no_parts, and_parts, Deriveds, no_deriveds, and_deriveds}
+use Rattle.bqn_syntax.specs.grammar.Well.{IsNoStrand, IsBase, IsElement, AreTwoParts}
 use Rattle.bqn_grammar.proofs.WalkedLooks.{arrow_ahead, element_ahead, colon_ahead, Groups, crosses, then_cross, crosses_gap, exact_is, mark_is, mark_sort, group_of, list_groups, word_stands, literal_stands, expr_passes, exprs_crosses, bodies_crosses, arrow_sort}
 
 -- what every token list that fits these signs has ahead

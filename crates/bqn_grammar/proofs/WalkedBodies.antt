@@ -8,12 +8,12 @@ use Rattle.bqn_syntax.specs.declared.sort.Bracket.TheVariants.{Curly}
 use Rattle.bqn_syntax.specs.declared.sort.Sort.TheVariants.{Closes, Ends}
 use Rattle.bqn_syntax.specs.declared.sort.Inside.{Inside}
 use Rattle.bqn_syntax.specs.declared.sort.Inside.TheVariants as inside
-use Rattle.bqn_syntax.specs.Sorts.{sort_of}
-use Rattle.bqn_syntax.specs.Items.{Element, OfPart, Item}
-use Rattle.bqn_syntax.specs.Classes.{is_predicate, marks_in, class_of}
-use Rattle.bqn_syntax.specs.Parsing.{Level, levels, and_statement, and_header, and_body, ended, whole, block_part, walk, go_on, body_ended, semicolon, nowhere, program_of}
-use Rattle.bqn_syntax.specs.Spells.{Sign, Mark, Gap, Fits, done, one_more, no_more, stmt_signs, stmts_signs, body_signs, bodies_more}
-use Rattle.bqn_syntax.specs.Plain.{Pattern, Header, Expr, Block, Stmt, block, BodyTree, body, Stmts, no_stmts, and_stmts, stmts, Bodies, no_bodies, and_bodies, bodies}
+use Rattle.bqn_syntax.specs.grammar.Sorts.{sort_of}
+use Rattle.bqn_syntax.specs.grammar.Items.{Element, OfPart, Item}
+use Rattle.bqn_syntax.specs.grammar.Classes.{is_predicate, marks_in, class_of}
+use Rattle.bqn_syntax.specs.grammar.Parsing.{Level, levels, and_statement, and_header, and_body, ended, whole, block_part, walk, go_on, body_ended, semicolon, nowhere, program_of}
+use Rattle.bqn_syntax.specs.grammar.Spells.{Sign, Mark, Gap, Fits, done, one_more, no_more, stmt_signs, stmts_signs, body_signs, bodies_more}
+use Rattle.bqn_syntax.specs.grammar.Trees.{Pattern, Header, Expr, Block, Stmt, block, BodyTree, body, Stmts, no_stmts, and_stmts, stmts, Bodies, no_bodies, and_bodies, bodies}
 use Rattle.bqn_grammar.proofs.WalkedArrows.{Arrows, Colons, other_arrows, apart_arrows, gap_arrows}
 use Rattle.bqn_grammar.proofs.WalkedSteps.{walk_step, having, clean, Many, clean_ends, gap_walks, separator_ends, Completes, Makes}
 use Rattle.bqn_grammar.proofs.WalkedPatterns.{closing_colons, ends_colons, apart_colons, gap_colons}

@@ -14,15 +14,15 @@ use Rattle.bqn_syntax.specs.declared.sort.Sort.{Sort}
 use Rattle.bqn_syntax.specs.declared.sort.Sort.TheVariants.{Opens, Closes, Separates, Draws, Joins, Selects, Ends, Heads, Asks, Skips, Stands}
 use Rattle.bqn_syntax.specs.declared.sort.Inside.{Inside}
 use Rattle.bqn_syntax.specs.declared.sort.Inside.TheVariants as inside
-use Rattle.bqn_syntax.specs.Sorts.{sort_of, punct_sort}
-use Rattle.bqn_syntax.specs.Brackets.{is_opening, is_closing, closing_of, Nesting, alone, marked, behind_token, at_end, nested}
-use Rattle.bqn_syntax.specs.Brackets as brackets
-use Rattle.bqn_syntax.specs.Looks.{Ahead, behind_group}
-use Rattle.bqn_syntax.specs.Items.{Element, OfPart, Item, Standing, Drawn, Joining, Selecting, Wrong, piece_pattern}
-use Rattle.bqn_syntax.specs.Expressions.{piece_expression, piece_statement, piece_predicate}
-use Rattle.bqn_syntax.specs.Headers.{header_in}
-use Rattle.bqn_syntax.specs.Parsing.{Level, Levels, levels, fresh, begun, and_expression, and_target, and_statement, well, judged, no_piece, ended_by, ended, is_first_piece, inside_of, list_inside, closes, whole_of, handed, go_on, taken, opened, closed, separated, semicolon, body_ended, asked, question, tokens_before, known_header, headed, headed_by, colon, step, nowhere, program_of, walk}
-use Rattle.bqn_syntax.specs.Plain.{Header, Leaf, Nothing, Stmts}
+use Rattle.bqn_syntax.specs.grammar.Sorts.{sort_of, punct_sort}
+use Rattle.bqn_syntax.specs.grammar.Brackets.{is_opening, is_closing, closing_of, Nesting, alone, marked, behind_token, at_end, nested}
+use Rattle.bqn_syntax.specs.grammar.Brackets as brackets
+use Rattle.bqn_syntax.specs.grammar.Looks.{Ahead, behind_group}
+use Rattle.bqn_syntax.specs.grammar.Items.{Element, OfPart, Item, Standing, Drawn, Joining, Selecting, Wrong, piece_pattern}
+use Rattle.bqn_syntax.specs.grammar.Expressions.{piece_expression, piece_statement, piece_predicate}
+use Rattle.bqn_syntax.specs.grammar.Headers.{header_in}
+use Rattle.bqn_syntax.specs.grammar.Parsing.{Level, Levels, levels, fresh, begun, and_expression, and_target, and_statement, well, judged, no_piece, ended_by, ended, is_first_piece, inside_of, list_inside, closes, whole_of, handed, go_on, taken, opened, closed, separated, semicolon, body_ended, asked, question, tokens_before, known_header, headed, headed_by, colon, step, nowhere, program_of, walk}
+use Rattle.bqn_syntax.specs.grammar.Trees.{Header, Leaf, Nothing, Stmts}
 use Rattle.bqn_grammar.proofs.SoundSorts.{sort_code, mark_of}
 use Rattle.bqn_grammar.proofs.WalkedSteps.{walk_cons, walked}
 

@@ -10,13 +10,13 @@ use Rattle.bqn_syntax.specs.declared.token.Kind.{Kind}
 use Rattle.bqn_syntax.specs.declared.sort.Sort.TheVariants.{Separates, Heads, Stands}
 use Rattle.bqn_syntax.specs.declared.sort.Inside.{Inside}
 use Rattle.bqn_syntax.specs.declared.sort.Inside.TheVariants as inside
-use Rattle.bqn_syntax.specs.Sorts.{sort_of}
-use Rattle.bqn_syntax.specs.Items.{Item}
-use Rattle.bqn_syntax.specs.Headers.{header_in, own_tag, is_left, is_right}
-use Rattle.bqn_syntax.specs.Parsing.{Level, Levels, levels, or_first, and_header, list_inside, is_first_piece, walk, go_on, headed_by, headed, known_header, tokens_before, before}
-use Rattle.bqn_syntax.specs.Spells.{Sign, Exact, Mark, Apart, Gap, Fits, done, exact, mark, apart, one_more, no_more, pattern_signs, listed_signs, listed_more, joined_signs, joined_more, token_signs, argument_signs, header_signs}
-use Rattle.bqn_syntax.specs.Well.{IsArgument, special, pattern, ArgumentFits, WellHeader, header_depth, argument_depth, pattern_depth}
-use Rattle.bqn_syntax.specs.Plain.{Pattern, Name, Skip, Literal, ListPattern, StrandPattern, Patterns, no_patterns, and_patterns, Header, Leaf, BodyTree}
+use Rattle.bqn_syntax.specs.grammar.Sorts.{sort_of}
+use Rattle.bqn_syntax.specs.grammar.Items.{Item}
+use Rattle.bqn_syntax.specs.grammar.Headers.{header_in, own_tag, is_left, is_right}
+use Rattle.bqn_syntax.specs.grammar.Parsing.{Level, Levels, levels, or_first, and_header, list_inside, is_first_piece, walk, go_on, headed_by, headed, known_header, tokens_before, before}
+use Rattle.bqn_syntax.specs.grammar.Spells.{Sign, Exact, Mark, Apart, Gap, Fits, done, exact, mark, apart, one_more, no_more, pattern_signs, listed_signs, listed_more, joined_signs, joined_more, token_signs, argument_signs, header_signs}
+use Rattle.bqn_syntax.specs.grammar.Well.{IsArgument, special, pattern, ArgumentFits, WellHeader, header_depth, argument_depth, pattern_depth}
+use Rattle.bqn_syntax.specs.grammar.Trees.{Pattern, Name, Skip, Literal, ListPattern, StrandPattern, Patterns, no_patterns, and_patterns, Header, Leaf, BodyTree}
 use Rattle.bqn_grammar.proofs.TreeItems.{part_item, pattern_items}
 use Rattle.bqn_grammar.proofs.FoundHeaders.{header_found}
 use Rattle.bqn_grammar.proofs.WalkedLooks.{arrow_ahead, colon_ahead, mark_is, mark_sort, passes_exact, token_passes, argument_stands, left_stands, right_stands, own_stands, self_stands, OperandsStand}

@@ -9,13 +9,13 @@ use Rattle.bqn_syntax.specs.declared.sort.Tag.{Tag}
 use Rattle.bqn_syntax.specs.declared.sort.Tag.TheVariants as tag
 use Rattle.bqn_syntax.specs.declared.sort.Inside.{Inside}
 use Rattle.bqn_syntax.specs.declared.sort.Inside.TheVariants as inside
-use Rattle.bqn_syntax.specs.Sorts.{tag as tag_of}
-use Rattle.bqn_syntax.specs.Looks.{Ahead}
-use Rattle.bqn_syntax.specs.Items.{OfPart, Drawn, Selecting}
-use Rattle.bqn_syntax.specs.Parsing.{Level, Levels, levels, fresh, merge_part, and_expression, list_inside, whole}
-use Rattle.bqn_syntax.specs.Spells.{Sign, Exact, Mark, Fits, arrow_code, target_signs, name_signs, part_signs, step_signs, derived_signs, uses_signs, deriveds_signs, parts_more}
-use Rattle.bqn_syntax.specs.Well.{IsFunction, MayStandBeforeArrow, LastOperand, EndsInNoList, UsesFit, TargetsFit, WellPart, WellStep, WellDerived, WellUses, WellDeriveds, WellParts}
-use Rattle.bqn_syntax.specs.Plain.{Expr, One, Two, Part, Leaf, Elements, Merge, Paren, Block, Field, Strand, Nothing, Step, Apply, Assign, Modify, Derived, derived, none, some, Exprs, no_exprs, and_exprs, exprs, Uses, no_uses, and_uses, Parts, Deriveds}
+use Rattle.bqn_syntax.specs.grammar.Sorts.{tag as tag_of}
+use Rattle.bqn_syntax.specs.grammar.Looks.{Ahead}
+use Rattle.bqn_syntax.specs.grammar.Items.{OfPart, Drawn, Selecting}
+use Rattle.bqn_syntax.specs.grammar.Parsing.{Level, Levels, levels, fresh, merge_part, and_expression, list_inside, whole}
+use Rattle.bqn_syntax.specs.grammar.Spells.{Sign, Exact, Mark, Fits, arrow_code, target_signs, name_signs, part_signs, step_signs, derived_signs, uses_signs, deriveds_signs, parts_more}
+use Rattle.bqn_syntax.specs.grammar.Well.{IsFunction, MayStandBeforeArrow, LastOperand, EndsInNoList, UsesFit, TargetsFit, WellPart, WellStep, WellDerived, WellUses, WellDeriveds, WellParts}
+use Rattle.bqn_syntax.specs.grammar.Trees.{Expr, One, Two, Part, Leaf, Elements, Merge, Paren, Block, Field, Strand, Nothing, Step, Apply, Assign, Modify, Derived, derived, none, some, Exprs, no_exprs, and_exprs, exprs, Uses, no_uses, and_uses, Parts, Deriveds}
 use Rattle.bqn_grammar.proofs.TreeItems.{part_item, name_items, target_items}
 use Rattle.bqn_grammar.proofs.WalkedLooks.{passes_mark, name_stands, AllStand, arrow_sort, names_passes, part_passes, parts_more_passes, uses_passes, derived_passes, deriveds_passes, step_passes}
 use Rattle.bqn_grammar.proofs.WalkedArrows.{Arrows, Colons, exact_arrow_ahead, part_arrows, derived_arrows, pattern_arrows}

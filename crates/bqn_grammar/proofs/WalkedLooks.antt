@@ -10,13 +10,13 @@ use Rattle.bqn_syntax.specs.declared.sort.Bracket.TheVariants.{Round, Angle, Squ
 use Rattle.bqn_syntax.specs.declared.sort.Sort.{Sort}
 use Rattle.bqn_syntax.specs.declared.sort.Sort.TheVariants.{Opens, Closes, Separates, Draws, Joins, Selects, Ends, Heads, Asks, Skips, Stands}
 use Rattle.bqn_syntax.specs.declared.sort.Tag.TheVariants as tag
-use Rattle.bqn_syntax.specs.Sorts.{sort_of, punct_sort, tag as tag_of, is_word, is_name}
-use Rattle.bqn_syntax.specs.Looks.{Ahead, ahead, Looks, looks, look, looks_of, first_of, rest_of}
-use Rattle.bqn_syntax.specs.Headers.{own_tag, is_left_operand, is_right_operand, is_left, is_right}
-use Rattle.bqn_syntax.specs.Classes.{is_predicate}
-use Rattle.bqn_syntax.specs.Spells.{Sign, Exact, Mark, Apart, Gap, Fits, exact, mark, apart, one_more, no_more, arrow_code, mark_at, pattern_signs, listed_signs, listed_more, joined_signs, joined_more, token_signs, argument_signs, header_signs, target_signs, name_signs, expr_signs, part_signs, steps_signs, step_signs, derived_signs, uses_signs, use_signs, deriveds_signs, exprs_signs, exprs_more, parts_signs, parts_more, stmt_signs, stmts_signs, body_signs, bodies_signs, bodies_more, block_signs}
-use Rattle.bqn_syntax.specs.Well.{IsLiteral, WellPattern, WellPatterns, WellJoined, IsArgument, special, pattern, ArgumentFits, OperandFits, SelfFits, WellHeader, TargetsFit, NamesFit, WellExpr, WellPart, WellSteps, WellStep, WellDerived, WellUses, WellUse, WellDeriveds, WellExprs, WellParts, WellStmt, WellStmts, WellBody, WellBodies, WellBlock}
-use Rattle.bqn_syntax.specs.Plain.{Pattern, Name, Skip, Literal, ListPattern, StrandPattern, Patterns, no_patterns, and_patterns, Header, Expr, Value, Train, Modifier, Use, One, Two, Part, Leaf, Elements, Merge, Paren, Block, Field, Strand, Nothing, Step, Apply, Assign, Modify, Stmt, Eval, Predicate, Export, BlockTree, block, BodyTree, body, Derived, derived, none, some, Exprs, no_exprs, and_exprs, Uses, no_uses, and_uses, Parts, no_parts, and_parts, Steps, no_steps, and_steps, Stmts, no_stmts, and_stmts, Bodies, no_bodies, and_bodies, Deriveds, no_deriveds, and_deriveds}
+use Rattle.bqn_syntax.specs.grammar.Sorts.{sort_of, punct_sort, tag as tag_of, is_word, is_name}
+use Rattle.bqn_syntax.specs.grammar.Looks.{Ahead, ahead, Looks, looks, look, looks_of, first_of, rest_of}
+use Rattle.bqn_syntax.specs.grammar.Headers.{own_tag, is_left_operand, is_right_operand, is_left, is_right}
+use Rattle.bqn_syntax.specs.grammar.Classes.{is_predicate}
+use Rattle.bqn_syntax.specs.grammar.Spells.{Sign, Exact, Mark, Apart, Gap, Fits, exact, mark, apart, one_more, no_more, arrow_code, mark_at, pattern_signs, listed_signs, listed_more, joined_signs, joined_more, token_signs, argument_signs, header_signs, target_signs, name_signs, expr_signs, part_signs, steps_signs, step_signs, derived_signs, uses_signs, use_signs, deriveds_signs, exprs_signs, exprs_more, parts_signs, parts_more, stmt_signs, stmts_signs, body_signs, bodies_signs, bodies_more, block_signs}
+use Rattle.bqn_syntax.specs.grammar.Well.{IsLiteral, WellPattern, WellPatterns, WellJoined, IsArgument, special, pattern, ArgumentFits, OperandFits, SelfFits, WellHeader, TargetsFit, NamesFit, WellExpr, WellPart, WellSteps, WellStep, WellDerived, WellUses, WellUse, WellDeriveds, WellExprs, WellParts, WellStmt, WellStmts, WellBody, WellBodies, WellBlock}
+use Rattle.bqn_syntax.specs.grammar.Trees.{Pattern, Name, Skip, Literal, ListPattern, StrandPattern, Patterns, no_patterns, and_patterns, Header, Expr, Value, Train, Modifier, Use, One, Two, Part, Leaf, Elements, Merge, Paren, Block, Field, Strand, Nothing, Step, Apply, Assign, Modify, Stmt, Eval, Predicate, Export, BlockTree, block, BodyTree, body, Derived, derived, none, some, Exprs, no_exprs, and_exprs, Uses, no_uses, and_uses, Parts, no_parts, and_parts, Steps, no_steps, and_steps, Stmts, no_stmts, and_stmts, Bodies, no_bodies, and_bodies, Deriveds, no_deriveds, and_deriveds}
 
 -- what stands ahead of these tokens
 abbrev pub arrow_ahead : List Token → Bool

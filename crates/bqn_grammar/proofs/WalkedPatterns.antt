@@ -10,13 +10,13 @@ use Rattle.bqn_syntax.specs.declared.sort.Sort.{Sort}
 use Rattle.bqn_syntax.specs.declared.sort.Sort.TheVariants.{Opens, Closes, Separates, Joins, Ends, Heads, Asks, Skips, Stands}
 use Rattle.bqn_syntax.specs.declared.sort.Inside.{Inside}
 use Rattle.bqn_syntax.specs.declared.sort.Inside.TheVariants as inside
-use Rattle.bqn_syntax.specs.Sorts.{sort_of, punct_sort}
-use Rattle.bqn_syntax.specs.Looks.{Ahead, Looks, looks_of, look, behind_group}
-use Rattle.bqn_syntax.specs.Items.{Element, OfList, Item, Standing, Joining, piece_pattern}
-use Rattle.bqn_syntax.specs.Parsing.{Level, Levels, levels, fresh, or_first, and_item, and_target, well, judged, ended_by, list_inside, is_first_piece, inside_of, closes, whole, walk}
-use Rattle.bqn_syntax.specs.Spells.{Sign, Mark, Apart, Gap, Fits, apart, one_more, no_more, mark_at, pattern_signs, listed_signs, listed_more, joined_signs, joined_more}
-use Rattle.bqn_syntax.specs.Well.{WellPattern, WellPatterns, WellJoined, pattern_depth, patterns_depth}
-use Rattle.bqn_syntax.specs.Plain.{Pattern, Name, Skip, Literal, ListPattern, StrandPattern, Patterns, no_patterns, and_patterns, patterns, Leaf, Nothing, BodyTree}
+use Rattle.bqn_syntax.specs.grammar.Sorts.{sort_of, punct_sort}
+use Rattle.bqn_syntax.specs.grammar.Looks.{Ahead, Looks, looks_of, look, behind_group}
+use Rattle.bqn_syntax.specs.grammar.Items.{Element, OfList, Item, Standing, Joining, piece_pattern}
+use Rattle.bqn_syntax.specs.grammar.Parsing.{Level, Levels, levels, fresh, or_first, and_item, and_target, well, judged, ended_by, list_inside, is_first_piece, inside_of, closes, whole, walk}
+use Rattle.bqn_syntax.specs.grammar.Spells.{Sign, Mark, Apart, Gap, Fits, apart, one_more, no_more, mark_at, pattern_signs, listed_signs, listed_more, joined_signs, joined_more}
+use Rattle.bqn_syntax.specs.grammar.Well.{WellPattern, WellPatterns, WellJoined, pattern_depth, patterns_depth}
+use Rattle.bqn_syntax.specs.grammar.Trees.{Pattern, Name, Skip, Literal, ListPattern, StrandPattern, Patterns, no_patterns, and_patterns, patterns, Leaf, Nothing, BodyTree}
 use Rattle.bqn_grammar.proofs.TreeItems.{part_item, pattern_items, joined_items, joined_more_items}
 use Rattle.bqn_grammar.proofs.FoundPieces.{pattern_found, pattern_items_are_some}
 use Rattle.bqn_grammar.proofs.WalkedLooks.{mark_is, mark_sort, word_stands, literal_stands, behind_opening, list_crosses, joined_more_passes}

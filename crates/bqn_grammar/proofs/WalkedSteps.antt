@@ -10,12 +10,12 @@ use Rattle.bqn_syntax.specs.declared.sort.Sort.{Sort}
 use Rattle.bqn_syntax.specs.declared.sort.Sort.TheVariants.{Opens, Closes, Separates}
 use Rattle.bqn_syntax.specs.declared.sort.Inside.{Inside}
 use Rattle.bqn_syntax.specs.declared.sort.Inside.TheVariants as inside
-use Rattle.bqn_syntax.specs.Sorts.{sort_of, punct_sort}
-use Rattle.bqn_syntax.specs.Looks.{Ahead, behind_group}
-use Rattle.bqn_syntax.specs.Items.{Element, Item, Standing}
-use Rattle.bqn_syntax.specs.Parsing.{Level, Levels, levels, fresh, or_first, begun, and_item, no_piece, ended, inside_of, closes, whole, whole_of, handed, go_on, taken, opened, closed, separated, step, walk}
-use Rattle.bqn_syntax.specs.Spells.{Sign, Exact, Mark, Apart, Gap, Fits, one_more, no_more}
-use Rattle.bqn_syntax.specs.Plain.{Stmts}
+use Rattle.bqn_syntax.specs.grammar.Sorts.{sort_of, punct_sort}
+use Rattle.bqn_syntax.specs.grammar.Looks.{Ahead, behind_group}
+use Rattle.bqn_syntax.specs.grammar.Items.{Element, Item, Standing}
+use Rattle.bqn_syntax.specs.grammar.Parsing.{Level, Levels, levels, fresh, or_first, begun, and_item, no_piece, ended, inside_of, closes, whole, whole_of, handed, go_on, taken, opened, closed, separated, step, walk}
+use Rattle.bqn_syntax.specs.grammar.Spells.{Sign, Exact, Mark, Apart, Gap, Fits, one_more, no_more}
+use Rattle.bqn_syntax.specs.grammar.Trees.{Stmts}
 use Rattle.bqn_grammar.proofs.WalkedLooks.{exact_is, mark_is, apart_is, mark_sort}
 
 abbrev pub walked : Result Levels Refusal → List Token → Result Stmts Refusal

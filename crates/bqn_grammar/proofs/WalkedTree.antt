@@ -12,14 +12,14 @@ use Rattle.bqn_syntax.specs.declared.sort.Sort.TheVariants.{Opens, Closes, Draws
 use Rattle.bqn_syntax.specs.declared.sort.Tag.TheVariants as tag
 use Rattle.bqn_syntax.specs.declared.sort.Inside.{Inside}
 use Rattle.bqn_syntax.specs.declared.sort.Inside.TheVariants as inside
-use Rattle.bqn_syntax.specs.Sorts.{sort_of, punct_sort, tag as tag_of}
-use Rattle.bqn_syntax.specs.Looks.{Ahead, behind_group}
-use Rattle.bqn_syntax.specs.Items.{Element, OfPart, Item, Standing, Drawn, Joining}
-use Rattle.bqn_syntax.specs.Expressions.{piece_expression, piece_statement, piece_predicate}
-use Rattle.bqn_syntax.specs.Parsing.{Level, Levels, levels, fresh, or_first, and_item, and_expression, and_statement, and_header, well, judged, ended, is_first_piece, closes, walk, go_on, asked, question, nowhere, program_of}
-use Rattle.bqn_syntax.specs.Spells.{Sign, Mark, Gap, Fits, arrow_code, mark_at, pattern_signs, header_signs, name_signs, expr_signs, part_signs, steps_signs, step_signs, derived_signs, uses_signs, deriveds_signs, exprs_signs, exprs_more, parts_signs, parts_more, stmts_signs, body_signs, bodies_more, block_signs}
-use Rattle.bqn_syntax.specs.Well.{WellPattern, IsValue, WellExpr, WellPart, WellSteps, WellStep, WellDerived, WellUses, WellDeriveds, WellExprs, WellParts, WellStmts, WellBody, WellBodies, WellBlock, header_depth, expr_depth, part_depth, steps_depth, step_depth, derived_depth, uses_depth, deriveds_depth, exprs_depth, parts_depth, stmts_depth, body_depth, bodies_depth, block_depth, pattern_depth}
-use Rattle.bqn_syntax.specs.Plain.{Pattern, Expr, Value, Train, Modifier, One, Two, Part, Leaf, Elements, Merge, Paren, Block, Field, Strand, Nothing, Step, Apply, Assign, Modify, Stmt, Eval, Predicate, Export, BlockTree, block, BodyTree, body, Derived, derived, none, some, Exprs, no_exprs, and_exprs, Uses, no_uses, and_uses, Parts, no_parts, and_parts, Steps, no_steps, and_steps, Stmts, no_stmts, and_stmts, stmts, Bodies, no_bodies, and_bodies, Deriveds, no_deriveds, and_deriveds}
+use Rattle.bqn_syntax.specs.grammar.Sorts.{sort_of, punct_sort, tag as tag_of}
+use Rattle.bqn_syntax.specs.grammar.Looks.{Ahead, behind_group}
+use Rattle.bqn_syntax.specs.grammar.Items.{Element, OfPart, Item, Standing, Drawn, Joining}
+use Rattle.bqn_syntax.specs.grammar.Expressions.{piece_expression, piece_statement, piece_predicate}
+use Rattle.bqn_syntax.specs.grammar.Parsing.{Level, Levels, levels, fresh, or_first, and_item, and_expression, and_statement, and_header, well, judged, ended, is_first_piece, closes, walk, go_on, asked, question, nowhere, program_of}
+use Rattle.bqn_syntax.specs.grammar.Spells.{Sign, Mark, Gap, Fits, arrow_code, mark_at, pattern_signs, header_signs, name_signs, expr_signs, part_signs, steps_signs, step_signs, derived_signs, uses_signs, deriveds_signs, exprs_signs, exprs_more, parts_signs, parts_more, stmts_signs, body_signs, bodies_more, block_signs}
+use Rattle.bqn_syntax.specs.grammar.Well.{WellPattern, IsValue, WellExpr, WellPart, WellSteps, WellStep, WellDerived, WellUses, WellDeriveds, WellExprs, WellParts, WellStmts, WellBody, WellBodies, WellBlock, header_depth, expr_depth, part_depth, steps_depth, step_depth, derived_depth, uses_depth, deriveds_depth, exprs_depth, parts_depth, stmts_depth, body_depth, bodies_depth, block_depth, pattern_depth}
+use Rattle.bqn_syntax.specs.grammar.Trees.{Pattern, Expr, Value, Train, Modifier, One, Two, Part, Leaf, Elements, Merge, Paren, Block, Field, Strand, Nothing, Step, Apply, Assign, Modify, Stmt, Eval, Predicate, Export, BlockTree, block, BodyTree, body, Derived, derived, none, some, Exprs, no_exprs, and_exprs, Uses, no_uses, and_uses, Parts, no_parts, and_parts, Steps, no_steps, and_steps, Stmts, no_stmts, and_stmts, stmts, Bodies, no_bodies, and_bodies, Deriveds, no_deriveds, and_deriveds}
 use Rattle.bqn_grammar.proofs.TreeItems.{part_item, pattern_items, target_items, part_items, parts_items, parts_more_items, uses_items, derived_items, deriveds_items, step_items, steps_items, expr_items}
 use Rattle.bqn_grammar.proofs.FoundPieces.{expression_found, evaluated_found, exported_found, predicate_found, items_are_some}
 use Rattle.bqn_grammar.proofs.WalkedHeaders.{header_is_walked}

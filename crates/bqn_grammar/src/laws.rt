@@ -1,6 +1,6 @@
 //! What holds of the grammar itself: nothing runs here.
 
-ghost use Rattle.bqn_syntax.specs.Grammar.{OnlyWellTreesAreFound, TreesAreUnique, WellTreesAreFound};
+ghost use Rattle.bqn_syntax.specs.grammar.Grammar.{OnlyWellTreesAreFound, TreesAreUnique, WellTreesAreFound};
 
 /// Each well tree is found from every token list that spells it.
 #[tactic(auto, using(crate::proofs::Found::found_laws))]

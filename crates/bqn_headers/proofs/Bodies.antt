@@ -4,7 +4,7 @@ use Rattle.std.specs.Prelude.{◌&&◌, nat_le}
 use Rattle.std.specs.List.{list_any, list_all}
 use Rattle.std.proofs.Math.ListN.{drop_of_length-le}
 use Rattle.std.proofs.lemmas.List.{length-drop}
-use Rattle.bqn_syntax.specs.Classes.{is_plain, plain_last, Marks}
+use Rattle.bqn_syntax.specs.grammar.Classes.{is_plain, plain_last, Marks}
 use Rattle.bqn_headers.specs.declared.class.BodyMarks.{BodyMarks}
 use Rattle.bqn_headers.specs.Heading.{marks_shown}
 

@@ -10,11 +10,11 @@ use Rattle.bqn_syntax.specs.declared.token.Kind.TheVariants as kind
 use Rattle.bqn_syntax.specs.declared.token.Token.{Token}
 use Rattle.bqn_syntax.specs.declared.sort.Tag.{Tag}
 use Rattle.bqn_syntax.specs.declared.sort.Tag.TheVariants as tag
-use Rattle.bqn_syntax.specs.Sorts.{is_name, token_named}
-use Rattle.bqn_syntax.specs.Plain.{Pattern, Name, Skip, Literal, ListPattern, StrandPattern, Header, Part, Leaf, Nothing, Elements, Merge, Paren, Block, Field, Strand}
-use Rattle.bqn_syntax.specs.Items as items
-use Rattle.bqn_syntax.specs.Items.{OfPart, OfList}
-use Rattle.bqn_syntax.specs.Headers.{own_tag, lone_token, token_tag, group_tag, is_left, is_right, is_left_operand, left_operand, outermost_name, outermost_pattern, header_pattern, left_argument, right_argument, special_or, with_right, function_form, operand_form, without_left, left_of, with_left, or_left, header_form}
+use Rattle.bqn_syntax.specs.grammar.Sorts.{is_name, token_named}
+use Rattle.bqn_syntax.specs.grammar.Trees.{Pattern, Name, Skip, Literal, ListPattern, StrandPattern, Header, Part, Leaf, Nothing, Elements, Merge, Paren, Block, Field, Strand}
+use Rattle.bqn_syntax.specs.grammar.Items as items
+use Rattle.bqn_syntax.specs.grammar.Items.{OfPart, OfList}
+use Rattle.bqn_syntax.specs.grammar.Headers.{own_tag, lone_token, token_tag, group_tag, is_left, is_right, is_left_operand, left_operand, outermost_name, outermost_pattern, header_pattern, left_argument, right_argument, special_or, with_right, function_form, operand_form, without_left, left_of, with_left, or_left, header_form}
 use Rattle.bqn_headers.specs.declared.element.Element.{Element}
 use Rattle.bqn_headers.specs.Elements.{element_shown, group_shown, groups_shown}
 use Rattle.bqn_headers.specs.Queues.{only}

@@ -1,9 +1,9 @@
 -- Groups that are built from the left are those of the definition.
 use Rattle.std.proofs.Common.{◌≡◌, ◌≤◌, ℕ, suc, List, [], ◌∷◌, ◌++◌, Bool, true, false, Option, Some, None, length, map, refl, sym, ap, ◌∙◌, arith, append_assoc}
 use Rattle.std.specs.Option.{option_map, option_and_then}
-use Rattle.bqn_syntax.specs.Plain.{Pattern}
-use Rattle.bqn_syntax.specs.Items as items
-use Rattle.bqn_syntax.specs.Items.{Standing, Drawn, Joining, Selecting, Wrong, onto_first, groups}
+use Rattle.bqn_syntax.specs.grammar.Trees.{Pattern}
+use Rattle.bqn_syntax.specs.grammar.Items as items
+use Rattle.bqn_syntax.specs.grammar.Items.{Standing, Drawn, Joining, Selecting, Wrong, onto_first, groups}
 use Rattle.bqn_headers.specs.declared.element.Element.{Element}
 use Rattle.bqn_headers.specs.declared.element.Item.{Item}
 use Rattle.bqn_headers.specs.Elements.{element_shown, group_shown, groups_shown, item_shown, items_shown}

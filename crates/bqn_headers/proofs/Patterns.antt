@@ -6,9 +6,9 @@ use Rattle.bqn_syntax.specs.declared.token.Kind.{Kind}
 use Rattle.bqn_syntax.specs.declared.token.Kind.TheVariants as kind
 use Rattle.bqn_syntax.specs.declared.token.Token.{Token}
 use Rattle.bqn_syntax.specs.declared.pattern.Pattern.{Pattern as CodePattern}
-use Rattle.bqn_syntax.specs.Sorts.{is_word}
-use Rattle.bqn_syntax.specs.Plain.{Pattern, Name, Literal, StrandPattern, patterns, pattern_of}
-use Rattle.bqn_syntax.specs.Items as items
+use Rattle.bqn_syntax.specs.grammar.Sorts.{is_word}
+use Rattle.bqn_syntax.specs.grammar.Trees.{Pattern, Name, Literal, StrandPattern, patterns, pattern_of}
+use Rattle.bqn_syntax.specs.grammar.Items as items
 use Rattle.bqn_headers.specs.declared.element.Element.{Element}
 use Rattle.bqn_headers.specs.Elements.{is_literal, element_shown, group_shown}
 use Rattle.bqn_headers.specs.Queues.{only}

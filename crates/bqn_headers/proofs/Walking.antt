@@ -4,12 +4,12 @@ use Rattle.std.specs.Option.{option_map, option_and_then}
 use Rattle.std.proofs.Math.ListN.{drop_of_length-le}
 use Rattle.std.proofs.lemmas.List.{reverse-append, length-reverse}
 use Rattle.bqn_syntax.specs.declared.token.Token.{Token}
-use Rattle.bqn_syntax.specs.Sorts.{sort_of}
-use Rattle.bqn_syntax.specs.Plain.{Pattern}
-use Rattle.bqn_syntax.specs.Items as items
-use Rattle.bqn_syntax.specs.Items.{piece_pattern}
-use Rattle.bqn_syntax.specs.Headers as headers
-use Rattle.bqn_syntax.specs.Headers.{Lists, end_of_piece, header_items, header_step, list_closes, list_goes_on, lists, open_list, outermost}
+use Rattle.bqn_syntax.specs.grammar.Sorts.{sort_of}
+use Rattle.bqn_syntax.specs.grammar.Trees.{Pattern}
+use Rattle.bqn_syntax.specs.grammar.Items as items
+use Rattle.bqn_syntax.specs.grammar.Items.{piece_pattern}
+use Rattle.bqn_syntax.specs.grammar.Headers as headers
+use Rattle.bqn_syntax.specs.grammar.Headers.{Lists, end_of_piece, header_items, header_step, list_closes, list_goes_on, lists, open_list, outermost}
 use Rattle.bqn_headers.specs.declared.element.Item.{Item}
 use Rattle.bqn_headers.specs.declared.lists.OpenList.{OpenList}
 use Rattle.bqn_headers.specs.Elements.{item_shown, items_shown}

@@ -2,8 +2,8 @@
 use Rattle.std.specs.Prelude.{Bool, true, false, List, map}
 use Rattle.bqn_syntax.specs.declared.token.Kind.{Kind}
 use Rattle.bqn_syntax.specs.declared.token.Kind.TheVariants as kind
-use Rattle.bqn_syntax.specs.Plain.{pattern_of, Leaf, Nothing}
-use Rattle.bqn_syntax.specs.Items as items
+use Rattle.bqn_syntax.specs.grammar.Trees.{pattern_of, Leaf, Nothing}
+use Rattle.bqn_syntax.specs.grammar.Items as items
 use Rattle.bqn_headers.specs.declared.element.Element.{Element}
 use Rattle.bqn_headers.specs.declared.element.Element.TheVariants as element
 use Rattle.bqn_headers.specs.declared.element.Item.{Item}

@@ -4,10 +4,10 @@ use Rattle.bqn_syntax.specs.declared.token.Kind.{Kind}
 use Rattle.bqn_syntax.specs.declared.token.Token.{Token}
 use Rattle.bqn_syntax.specs.declared.sort.Tag.{Tag}
 use Rattle.bqn_syntax.specs.declared.sort.Tag.TheVariants as tag
-use Rattle.bqn_syntax.specs.Sorts.{is_name}
-use Rattle.bqn_syntax.specs.Plain.{Pattern, Name, Header}
-use Rattle.bqn_syntax.specs.Items.{Element}
-use Rattle.bqn_syntax.specs.Headers.{group_tag, lone_token, left_operand, operand_form}
+use Rattle.bqn_syntax.specs.grammar.Sorts.{is_name}
+use Rattle.bqn_syntax.specs.grammar.Trees.{Pattern, Name, Header}
+use Rattle.bqn_syntax.specs.grammar.Items.{Element}
+use Rattle.bqn_syntax.specs.grammar.Headers.{group_tag, lone_token, left_operand, operand_form}
 
 abbrev pub token_is : (Kind → Bool) → Option Token → Bool
 token_is test None = false

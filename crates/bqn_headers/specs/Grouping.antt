@@ -1,7 +1,7 @@
 -- Items that are grouped one by one, from the left.
 use Rattle.std.specs.Prelude.{Bool, true, false, List, [], ◌∷◌, ◌++◌, Option, Some, None}
 use Rattle.std.specs.Option.{option_and_then}
-use Rattle.bqn_syntax.specs.Items.{Element, Item, Standing, Joining}
+use Rattle.bqn_syntax.specs.grammar.Items.{Element, Item, Standing, Joining}
 use Rattle.bqn_headers.specs.declared.groups.Grouping.{Grouping as CodeGrouping}
 use Rattle.bqn_headers.specs.Elements.{group_shown, groups_shown}
 

@@ -2,8 +2,8 @@
 use Rattle.std.specs.Prelude.{◌≡◌, Option, Some, None, Result, Ok, Err}
 use Rattle.std.specs.Option.{option_map}
 use Rattle.bqn_syntax.specs.declared.pattern.Header.{Header as CodeHeader}
-use Rattle.bqn_syntax.specs.Plain.{Header, header_of}
-use Rattle.bqn_syntax.specs.Classes.{Marks}
+use Rattle.bqn_syntax.specs.grammar.Trees.{Header, header_of}
+use Rattle.bqn_syntax.specs.grammar.Classes.{Marks}
 use Rattle.bqn_headers.specs.declared.class.BodyMarks.{BodyMarks}
 use Rattle.bqn_headers.specs.declared.error.HeadError.{HeadError}
 use Rattle.bqn_headers.specs.declared.error.HeadError.TheVariants.{Bad, Memory}

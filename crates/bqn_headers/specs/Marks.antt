@@ -3,7 +3,7 @@ use Rattle.std.specs.Prelude.{Bool, ◌||◌, if◌then◌else◌, List, Option,
 use Rattle.std.specs.List.{list_any}
 use Rattle.bqn_syntax.specs.declared.tree.Class.{Class}
 use Rattle.bqn_syntax.specs.declared.tree.Class.TheVariants as class
-use Rattle.bqn_syntax.specs.Classes.{Marks, has_two, has_one_self, has_one, has_function, is_deferred, class_if}
+use Rattle.bqn_syntax.specs.grammar.Classes.{Marks, has_two, has_one_self, has_one, has_function, is_deferred, class_if}
 use Rattle.bqn_headers.specs.declared.class.Mark.{Mark}
 use Rattle.bqn_headers.specs.declared.class.Mark.TheVariants as mark
 

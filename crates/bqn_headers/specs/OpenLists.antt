@@ -1,7 +1,7 @@
 -- What the open lists of a header are in the definition.
 use Rattle.std.specs.Prelude.{List, map, reverse}
-use Rattle.bqn_syntax.specs.Plain.{pattern_of}
-use Rattle.bqn_syntax.specs.Headers as headers
+use Rattle.bqn_syntax.specs.grammar.Trees.{pattern_of}
+use Rattle.bqn_syntax.specs.grammar.Headers as headers
 use Rattle.bqn_headers.specs.declared.lists.OpenList.{OpenList}
 use Rattle.bqn_headers.specs.declared.lists.Lists.{Lists}
 use Rattle.bqn_headers.specs.Elements.{items_shown}

@@ -1,7 +1,7 @@
 ghost use Rattle.std.specs.Prelude.{◌≡◌};
 ghost use Rattle.std.specs.Option.{option_map};
-ghost use Rattle.bqn_syntax.specs.Plain.{Name, pattern_of};
-ghost use Rattle.bqn_syntax.specs.Headers as Headers;
+ghost use Rattle.bqn_syntax.specs.grammar.Trees.{Name, pattern_of};
+ghost use Rattle.bqn_syntax.specs.grammar.Headers as Headers;
 ghost use Rattle.bqn_headers.specs.Elements.{element_shown, group_shown};
 ghost use Rattle.bqn_headers.specs.Forms.{lone_is, stands_outermost};
 ghost use Rattle.bqn_headers.specs.Heading.{Finds};
@@ -62,7 +62,7 @@ pub(crate) fn right_operand(group: Queue<Element>) -> Result<Token, HeadError>
 }
 
 /// Whether a pattern may be an argument of a header: of names only a subject's is one.
-#[tactic(auto, using(bqn_syntax::specs::Levels::levels))]
+#[tactic(auto, using(bqn_syntax::specs::grammar::TreeEquations::levels))]
 fn may_be_argument(pattern: &Pattern) -> bool
     ensures { result ≡ stands_outermost (pattern_of pattern.now) }
 {
@@ -84,7 +84,7 @@ fn header_pattern(alloc: Global, group: Queue<Element>) -> Result<Pattern, HeadE
 }
 
 /// The name that a group is.
-#[tactic(auto, using(bqn_syntax::specs::Levels::levels))]
+#[tactic(auto, using(bqn_syntax::specs::grammar::TreeEquations::levels))]
 fn lone_name(group: Queue<Element>) -> Result<Pattern, HeadError>
     ensures { Finds (option_map Name (Headers.lone_token (group_shown group))) pattern_of result }
 {

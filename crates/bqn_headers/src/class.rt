@@ -1,10 +1,10 @@
 ghost use Rattle.std.specs.Prelude.{◌≡◌, map};
 ghost use Rattle.std.specs.Option.{option_map};
 ghost use Rattle.std.specs.List.{list_any, list_all};
-ghost use Rattle.bqn_syntax.specs.Plain.{header_of};
-ghost use Rattle.bqn_syntax.specs.Sorts as Sorts;
-ghost use Rattle.bqn_syntax.specs.Classes as Classes;
-ghost use Rattle.bqn_syntax.specs.Classes.{class_of, plain_last};
+ghost use Rattle.bqn_syntax.specs.grammar.Trees.{header_of};
+ghost use Rattle.bqn_syntax.specs.grammar.Sorts as Sorts;
+ghost use Rattle.bqn_syntax.specs.grammar.Classes as Classes;
+ghost use Rattle.bqn_syntax.specs.grammar.Classes.{class_of, plain_last};
 ghost use Rattle.bqn_headers.specs.Heading.{marks_shown};
 ghost use Rattle.bqn_headers.specs.Marks.{has, is_called, mod1_class, mod2_class};
 

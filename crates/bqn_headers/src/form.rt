@@ -1,6 +1,6 @@
 ghost use Rattle.std.specs.Prelude.{◌≡◌, ◌∷◌, Some};
-ghost use Rattle.bqn_syntax.specs.Plain.{header_of, pattern_of};
-ghost use Rattle.bqn_syntax.specs.Headers as Headers;
+ghost use Rattle.bqn_syntax.specs.grammar.Trees.{header_of, pattern_of};
+ghost use Rattle.bqn_syntax.specs.grammar.Headers as Headers;
 ghost use Rattle.bqn_headers.specs.Elements.{group_shown, groups_shown};
 ghost use Rattle.bqn_headers.specs.Forms as Forms;
 ghost use Rattle.bqn_headers.specs.Heading.{Finds};

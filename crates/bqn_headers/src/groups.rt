@@ -1,6 +1,6 @@
 ghost use Rattle.std.specs.Prelude.{◌≡◌, true, Some};
-ghost use Rattle.bqn_syntax.specs.Plain.{pattern_of};
-ghost use Rattle.bqn_syntax.specs.Items as Items;
+ghost use Rattle.bqn_syntax.specs.grammar.Trees.{pattern_of};
+ghost use Rattle.bqn_syntax.specs.grammar.Items as Items;
 ghost use Rattle.bqn_headers.specs.Elements.{element_shown, group_shown, groups_shown, item_shown, items_shown};
 ghost use Rattle.bqn_headers.specs.Grouping.{closed, grouping_shown, taken, with_element, with_joiner};
 ghost use Rattle.bqn_headers.specs.Heading.{Finds, Moves};

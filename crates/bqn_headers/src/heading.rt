@@ -1,5 +1,5 @@
 ghost use Rattle.std.specs.Prelude.{◌≤◌, ◌^◌, length};
-ghost use Rattle.bqn_syntax.specs.Headers.{header_in};
+ghost use Rattle.bqn_syntax.specs.grammar.Headers.{header_in};
 ghost use Rattle.bqn_headers.specs.Heading.{Gives};
 
 use crate::error::HeadError;

@@ -1,8 +1,8 @@
 ghost use Rattle.std.specs.Prelude.{◌≡◌, Some, [], ◌∷◌, map};
 ghost use Rattle.std.specs.Option.{option_map};
-ghost use Rattle.bqn_syntax.specs.Plain.{pattern_of};
-ghost use Rattle.bqn_syntax.specs.Headers.{and_item, end_of_piece, header_step, list_closes, list_goes_on, lists, open_list, outermost};
-ghost use Rattle.bqn_syntax.specs.Sorts.{sort_of};
+ghost use Rattle.bqn_syntax.specs.grammar.Trees.{pattern_of};
+ghost use Rattle.bqn_syntax.specs.grammar.Headers.{and_item, end_of_piece, header_step, list_closes, list_goes_on, lists, open_list, outermost};
+ghost use Rattle.bqn_syntax.specs.grammar.Sorts.{sort_of};
 ghost use Rattle.bqn_headers.specs.Elements.{item_shown, items_shown};
 ghost use Rattle.bqn_headers.specs.Heading.{Moves};
 ghost use Rattle.bqn_headers.specs.OpenLists.{lists_shown, open_shown, outer_shown};
@@ -55,7 +55,7 @@ pub(crate) struct Lists {
     outer: Vec<OpenList>,
 }
 
-#[tactic(auto, using(bqn_syntax::specs::Levels::levels, crate::proofs::Walking::list_laws))]
+#[tactic(auto, using(bqn_syntax::specs::grammar::TreeEquations::levels, crate::proofs::Walking::list_laws))]
 impl Lists {
     pub(crate) fn new(alloc: Global) -> Lists
         ensures { lists_shown result ≡ lists open_list [] }

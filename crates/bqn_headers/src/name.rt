@@ -1,7 +1,7 @@
 ghost use Rattle.std.specs.Prelude.{◌≡◌};
 ghost use Rattle.bqn_syntax.specs.declared.sort.Tag.TheVariants.{Subject};
-ghost use Rattle.bqn_syntax.specs.Headers as Headers;
-ghost use Rattle.bqn_syntax.specs.Sorts.{is_name, is_word};
+ghost use Rattle.bqn_syntax.specs.grammar.Headers as Headers;
+ghost use Rattle.bqn_syntax.specs.grammar.Sorts.{is_name, is_word};
 ghost use Rattle.bqn_headers.specs.Elements.{is_literal};
 
 use bqn_base::Role;

@@ -2,9 +2,9 @@
 use Rattle.std.proofs.Common.{◌≡◌, ◌≤◌, List, [], ◌∷◌, None, length, map, ap, ◌∙◌, refl, arith}
 use Rattle.bqn_syntax.specs.declared.tree.Derived.{Derived as CodeDerived, out-Derived}
 use Rattle.bqn_syntax.specs.declared.tree.ModUse.{ModUse as CodeUse}
-use Rattle.bqn_syntax.specs.Plain.{Part, Derived, derived, uses, part_of, use_of, derived_of}
-use Rattle.bqn_syntax.specs.Form.{function_of, part_function}
-use Rattle.bqn_syntax.specs.Levels.{derived-out}
+use Rattle.bqn_syntax.specs.grammar.Trees.{Part, Derived, derived, uses, part_of, use_of, derived_of}
+use Rattle.bqn_machine.specs.Form.{function_of, part_function}
+use Rattle.bqn_syntax.specs.grammar.TreeEquations.{derived-out}
 
 with_uses : (part : Part) (all : List CodeUse) → 1 ≤ length all → function_of (derived part (uses (map use_of all))) ≡ None
 with_uses part [] some = absurd (omega arith)

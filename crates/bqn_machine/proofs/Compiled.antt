@@ -6,9 +6,9 @@ use Rattle.std.specs.Option.{option_map}
 use Rattle.std.specs.declared.vec.Vec.{Vec}
 use Rattle.std.specs.declared.alloc.Global.{Global}
 use Rattle.bqn_syntax.specs.declared.token.Token.{Token}
-use Rattle.bqn_syntax.specs.Plain.{Stmts}
-use Rattle.bqn_syntax.specs.Form.{statements_in, form_of}
-use Rattle.bqn_syntax.specs.Tree.{Stmt}
+use Rattle.bqn_syntax.specs.grammar.Trees.{Stmts}
+use Rattle.bqn_machine.specs.Form.{statements_in, form_of}
+use Rattle.bqn_machine.specs.Tree.{Stmt}
 use Rattle.bqn_machine.specs.declared.code.Instr.{Instr}
 use Rattle.bqn_machine.specs.declared.error.CompileError.{CompileError}
 use Rattle.bqn_machine.specs.declared.error.CompileError.TheVariants.{NotYet, Memory}

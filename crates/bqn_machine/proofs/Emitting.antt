@@ -3,15 +3,15 @@ use Rattle.std.proofs.Common.{◌≡◌, ℕ, List, [], ◌∷◌, ◌++◌, Opt
 use Rattle.std.proofs.lemmas.List.{append-nil, map-append}
 use Rattle.std.specs.Option.{option_map, option_and_then}
 use Rattle.bqn_base.specs.declared.role.Role.TheVariants as role
-use Rattle.bqn_syntax.specs.declared.function.Function.{Function}
+use Rattle.bqn_machine.specs.declared.function.Function.{Function}
 use Rattle.bqn_syntax.specs.declared.token.Kind.{Kind}
 use Rattle.bqn_syntax.specs.declared.token.Kind.TheVariants as kind
 use Rattle.bqn_syntax.specs.declared.tree.Arrow.TheVariants as arrow
 use Rattle.bqn_syntax.specs.declared.tree.Step.{Step as CodeStep}
-use Rattle.bqn_syntax.specs.Plain as plain
-use Rattle.bqn_syntax.specs.Plain.{Leaf, Apply, Assign, Eval, none, some, Steps, no_steps, and_steps, steps, step_of, Stmts, no_stmts, and_stmts}
-use Rattle.bqn_syntax.specs.Tree.{Part, Number, Name, Paren, Expr, Value, Apply1, Apply2, Stmt}
-use Rattle.bqn_syntax.specs.Form.{Stated, function_of, number_of, leaf_in, part_in, expr_in, last_in, steps_in, step_in, call_in, applied2, unnamed, fresh, subject_name, name_in, target_in, last_step_in, stmt_steps_in, stmt_in, statements_in}
+use Rattle.bqn_syntax.specs.grammar.Trees as plain
+use Rattle.bqn_syntax.specs.grammar.Trees.{Leaf, Apply, Assign, Eval, none, some, Steps, no_steps, and_steps, steps, step_of, Stmts, no_stmts, and_stmts}
+use Rattle.bqn_machine.specs.Tree.{Part, Number, Name, Paren, Expr, Value, Apply1, Apply2, Stmt}
+use Rattle.bqn_machine.specs.Form.{Stated, function_of, number_of, leaf_in, part_in, expr_in, last_in, steps_in, step_in, call_in, applied2, unnamed, fresh, subject_name, name_in, target_in, last_step_in, stmt_steps_in, stmt_in, statements_in}
 use Rattle.bqn_machine.specs.declared.code.Instr.{Instr}
 use Rattle.bqn_machine.specs.declared.code.Instr.TheVariants.{Load, Define, Call1, Call2, Pop}
 use Rattle.bqn_machine.specs.Translation.{part_code, expr_code, target_code, stmt_code, translation}

@@ -6,7 +6,7 @@ use Rattle.bqn_base.specs.declared.fault.Fault.{Fault}
 use Rattle.bqn_base.specs.declared.fault.Fault.TheVariants.{Undefined}
 use Rattle.bqn_io.specs.Writing.{Adds, AddsPart, Breaks}
 use Rattle.bqn_io.proofs.Writing.{adds-nothing, adds-then, adds-then-part, adds-then-breaks}
-use Rattle.bqn_syntax.specs.Evaluation.{State, Res, Gives, Faults, Spends, wrote, answered, answer_of, output_of, known_value}
+use Rattle.bqn_machine.specs.Evaluation.{State, Res, Gives, Faults, Spends, wrote, answered, answer_of, output_of, known_value}
 use Rattle.bqn_machine.specs.declared.code.Instr.{Instr}
 use Rattle.bqn_machine.specs.declared.code.Instr.TheVariants.{Const, Load, Define, Call1, Call2, Pop}
 use Rattle.bqn_machine.specs.declared.end.End.{End}

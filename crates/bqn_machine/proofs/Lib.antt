@@ -6,3 +6,4 @@ pub mod Compiled
 pub mod NumberLine
 pub mod Steps
 pub mod Going
+mod FormSamples

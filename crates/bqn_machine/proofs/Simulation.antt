@@ -1,7 +1,7 @@
 -- The code of a tree does what the tree does.
 use Rattle.std.proofs.Common.{◌≡◌, ℕ, zero, suc, ℤ, List, [], ◌∷◌, ◌++◌, Option, Some, None, refl, ap, ◌∙◌, append_assoc}
-use Rattle.bqn_syntax.specs.Tree.{Part, Number, Name, Paren, Expr, Value, Apply1, Apply2, Stmt}
-use Rattle.bqn_syntax.specs.Evaluation.{State, Res, Gives, Faults, Spends, M, then_do, call, stored, eval_part, eval_expr, eval_statements, evaluated}
+use Rattle.bqn_machine.specs.Tree.{Part, Number, Name, Paren, Expr, Value, Apply1, Apply2, Stmt}
+use Rattle.bqn_machine.specs.Evaluation.{State, Res, Gives, Faults, Spends, M, then_do, call, stored, eval_part, eval_expr, eval_statements, evaluated}
 use Rattle.bqn_machine.specs.declared.code.Instr.{Instr}
 use Rattle.bqn_machine.specs.declared.code.Instr.TheVariants.{Call1, Call2, Pop}
 use Rattle.bqn_machine.specs.Execution.{Run, on_answer, exec, executed}

@@ -7,8 +7,8 @@ use Rattle.bqn_base.specs.declared.fault.Fault.{Fault}
 use Rattle.bqn_machine.specs.declared.end.End.{End}
 use Rattle.bqn_machine.specs.declared.end.End.TheVariants as end
 use Rattle.bqn_machine.specs.Running.{Calls, Acts, Loads, pushed, top_act}
-use Rattle.bqn_syntax.specs.declared.function.Function.{Function}
-use Rattle.bqn_syntax.specs.Evaluation.{answer_of, output_of}
+use Rattle.bqn_machine.specs.declared.function.Function.{Function}
+use Rattle.bqn_machine.specs.Evaluation.{answer_of, output_of}
 
 pub reverse-push : (xs : List ℤ) (x : ℤ) → reverse (xs ++ x ∷ []) ≡ x ∷ reverse xs
 reverse-push xs x = reverse-append xs (x ∷ [])

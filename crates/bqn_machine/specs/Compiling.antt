@@ -2,8 +2,8 @@
 use Rattle.std.specs.Prelude.{◌≡◌, ℕ, List, Option, Some, None, Result, Ok, Err}
 use Rattle.std.specs.declared.vec.Vec.{Vec}
 use Rattle.std.specs.declared.alloc.Global.{Global}
-use Rattle.bqn_syntax.specs.Tree.{Stmt}
-use Rattle.bqn_syntax.specs.Evaluation.{evaluated}
+use Rattle.bqn_machine.specs.Tree.{Stmt}
+use Rattle.bqn_machine.specs.Evaluation.{evaluated}
 use Rattle.bqn_machine.specs.declared.code.Instr.{Instr}
 use Rattle.bqn_machine.specs.declared.error.CompileError.{CompileError}
 use Rattle.bqn_machine.specs.declared.error.CompileError.TheVariants.{NotYet, Memory}

@@ -3,12 +3,12 @@
 use Rattle.std.specs.Prelude.{ℕ, List, [], ◌∷◌, ◌++◌, Option, Some, None}
 use Rattle.std.specs.Option.{option_map, option_and_then}
 use Rattle.bqn_base.specs.declared.role.Role.TheVariants as role
-use Rattle.bqn_syntax.specs.declared.function.Function.{Function}
+use Rattle.bqn_machine.specs.declared.function.Function.{Function}
 use Rattle.bqn_syntax.specs.declared.token.Kind.{Kind}
 use Rattle.bqn_syntax.specs.declared.token.Kind.TheVariants as kind
 use Rattle.bqn_syntax.specs.declared.tree.Arrow.TheVariants as arrow
-use Rattle.bqn_syntax.specs.Plain.{Name, Expr, Value, Part, Leaf, Paren, Step, Apply, Assign, Stmt, Eval, MaybePart, none, some, Steps, no_steps, and_steps, Stmts, no_stmts, and_stmts}
-use Rattle.bqn_syntax.specs.Form.{function_of, number_of, subject_name}
+use Rattle.bqn_syntax.specs.grammar.Trees.{Name, Expr, Value, Part, Leaf, Paren, Step, Apply, Assign, Stmt, Eval, MaybePart, none, some, Steps, no_steps, and_steps, Stmts, no_stmts, and_stmts}
+use Rattle.bqn_machine.specs.Form.{function_of, number_of, subject_name}
 use Rattle.bqn_machine.specs.declared.code.Instr.{Instr}
 use Rattle.bqn_machine.specs.declared.code.Instr.TheVariants.{Const, Load, Define, Call1, Call2, Pop}
 

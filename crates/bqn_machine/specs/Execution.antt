@@ -1,6 +1,6 @@
 -- What code means: a stack of numbers, its top first, and the state of an evaluation.
 use Rattle.std.specs.Prelude.{ℕ, zero, suc, ℤ, List, [], ◌∷◌, Option, Some, None}
-use Rattle.bqn_syntax.specs.Evaluation.{State, Res, Gives, Faults, Spends, call, load, define}
+use Rattle.bqn_machine.specs.Evaluation.{State, Res, Gives, Faults, Spends, call, load, define}
 use Rattle.bqn_machine.specs.declared.code.Instr.{Instr}
 use Rattle.bqn_machine.specs.declared.code.Instr.TheVariants.{Const, Load, Define, Call1, Call2, Pop}
 

@@ -1,3 +1,6 @@
+pub mod Tree
+pub mod Form
+pub mod Evaluation
 pub mod Reading
 pub mod Translation
 pub mod Emission

@@ -3,8 +3,8 @@ use Rattle.std.specs.Prelude.{◌≡◌, ℕ, ℤ, List, [], ◌∷◌, ◌++◌
 use Rattle.bqn_base.specs.declared.fault.Fault.{Fault}
 use Rattle.bqn_base.specs.declared.fault.Fault.TheVariants.{Undefined}
 use Rattle.bqn_io.specs.Writing.{Adds, AddsPart, Breaks}
-use Rattle.bqn_syntax.specs.declared.function.Function.{Function}
-use Rattle.bqn_syntax.specs.Evaluation.{Res, Gives, Faults, Spends, answer_of, output_of}
+use Rattle.bqn_machine.specs.declared.function.Function.{Function}
+use Rattle.bqn_machine.specs.Evaluation.{Res, Gives, Faults, Spends, answer_of, output_of}
 use Rattle.bqn_machine.specs.declared.code.Instr.{Instr}
 use Rattle.bqn_machine.specs.declared.code.Instr.TheVariants.{Const, Load, Define, Call1, Call2, Pop}
 use Rattle.bqn_machine.specs.declared.end.End.{End}

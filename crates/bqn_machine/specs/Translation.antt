@@ -1,6 +1,6 @@
 -- The code of a tree.
 use Rattle.std.specs.Prelude.{ℕ, List, [], ◌∷◌, ◌++◌, Option, Some, None}
-use Rattle.bqn_syntax.specs.Tree.{Part, Number, Name, Paren, Expr, Value, Apply1, Apply2, Stmt}
+use Rattle.bqn_machine.specs.Tree.{Part, Number, Name, Paren, Expr, Value, Apply1, Apply2, Stmt}
 use Rattle.bqn_machine.specs.declared.code.Instr.{Instr}
 use Rattle.bqn_machine.specs.declared.code.Instr.TheVariants.{Const, Load, Define, Call1, Call2, Pop}
 

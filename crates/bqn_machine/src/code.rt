@@ -1,4 +1,4 @@
-use bqn_syntax::Function;
+use crate::function::Function;
 
 /// An instruction. The stack holds numbers; the top is the last one pushed.
 #[derive(Clone, Copy, Debug, PartialEq, Eq)]

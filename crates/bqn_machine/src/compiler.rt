@@ -1,6 +1,6 @@
 ghost use Rattle.std.specs.Option.{option_map};
-ghost use Rattle.bqn_syntax.specs.Form.{form_of};
-ghost use Rattle.bqn_syntax.specs.Plain.{tree_of};
+ghost use Rattle.bqn_machine.specs.Form.{form_of};
+ghost use Rattle.bqn_syntax.specs.grammar.Trees.{tree_of};
 ghost use Rattle.bqn_machine.specs.Compiling.{Compiles};
 ghost use Rattle.bqn_machine.specs.Reading.{ReadsAs};
 ghost use Rattle.bqn_machine.specs.Translation.{translation};

@@ -2,10 +2,10 @@
 //! step the part left of its function, if there is one, and the call.
 
 ghost use Rattle.std.specs.Prelude.{◌≡◌, Some, map, []};
-ghost use Rattle.bqn_syntax.specs.Plain.{expr_of, part_of, step_of, stmt_of, steps as plain_steps, stmts as plain_stmts};
+ghost use Rattle.bqn_syntax.specs.grammar.Trees.{expr_of, part_of, step_of, stmt_of, steps as plain_steps, stmts as plain_stmts};
 ghost use Rattle.std.specs.Option.{option_map};
-ghost use Rattle.bqn_syntax.specs.Form.{number_of as number_in};
-ghost use Rattle.bqn_syntax.specs.Form.{subject_name as subject_name_in};
+ghost use Rattle.bqn_machine.specs.Form.{number_of as number_in};
+ghost use Rattle.bqn_machine.specs.Form.{subject_name as subject_name_in};
 ghost use Rattle.bqn_machine.specs.Emission.{expr_emitted, last_step_emitted, leaf_emitted, leaf_instr, name_emitted, part_emitted, progress, step_emitted, steps_emitted, stmt_emitted, stmt_steps_emitted, stmts_emitted, target_emitted};
 ghost use Rattle.bqn_machine.specs.Reading.{ReadsAs, spelled};
 
@@ -51,7 +51,7 @@ fn emit_leaf(
 }
 
 #[cycle(emit)]
-#[tactic(auto, using(bqn_syntax::specs::Levels::levels))]
+#[tactic(auto, using(bqn_syntax::specs::grammar::TreeEquations::levels))]
 fn emit_part(
     names: &IndexSet<Vec<char>>,
     part: &Part,
@@ -67,7 +67,7 @@ fn emit_part(
 }
 
 #[cycle(emit)]
-#[tactic(auto, using(bqn_syntax::specs::Levels::levels))]
+#[tactic(auto, using(bqn_syntax::specs::grammar::TreeEquations::levels))]
 fn emit_expr(
     names: &IndexSet<Vec<char>>,
     expr: &Expr,
@@ -88,7 +88,7 @@ fn emit_expr(
 }
 
 #[cycle(emit)]
-#[tactic(auto, using(bqn_syntax::specs::Levels::levels))]
+#[tactic(auto, using(bqn_syntax::specs::grammar::TreeEquations::levels))]
 fn emit_steps(
     names: &IndexSet<Vec<char>>,
     steps: &[Step],
@@ -103,7 +103,7 @@ fn emit_steps(
 }
 
 #[cycle(emit)]
-#[tactic(auto, using(bqn_syntax::specs::Levels::levels))]
+#[tactic(auto, using(bqn_syntax::specs::grammar::TreeEquations::levels))]
 fn emit_step(
     names: &IndexSet<Vec<char>>,
     step: &Step,
@@ -169,7 +169,7 @@ fn emit_target(
 }
 
 /// Emits the last step of a statement, which may define a name.
-#[tactic(auto, using(bqn_syntax::specs::Levels::levels))]
+#[tactic(auto, using(bqn_syntax::specs::grammar::TreeEquations::levels))]
 fn emit_last_step(
     alloc: Global,
     names: &mut IndexSet<Vec<char>>,
@@ -205,7 +205,7 @@ fn emit_stmt_steps(
 }
 
 /// Emits a statement, whose value is dropped.
-#[tactic(auto, using(bqn_syntax::specs::Levels::levels))]
+#[tactic(auto, using(bqn_syntax::specs::grammar::TreeEquations::levels))]
 fn emit_stmt(
     alloc: Global,
     names: &mut IndexSet<Vec<char>>,
@@ -230,7 +230,7 @@ fn emit_stmt(
 }
 
 /// The code of the statements of a tree.
-#[tactic(auto, using(bqn_syntax::specs::Levels::levels))]
+#[tactic(auto, using(bqn_syntax::specs::grammar::TreeEquations::levels))]
 pub(crate) fn code_of(alloc: Global, stmts: &[Stmt]) -> Result<Vec<Instr>, CompileError>
     ensures { ReadsAs (λ code. code.items) (stmts_emitted [] [] (plain_stmts (map stmt_of stmts.now))) result }
 {

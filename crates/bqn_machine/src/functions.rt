@@ -1,11 +1,13 @@
 ghost use Rattle.std.specs.Prelude.{◌≡◌, codes, nat_eq};
 ghost use Rattle.std.specs.Cmp.Lexicographic.{pointwise};
-ghost use Rattle.bqn_syntax.specs.Form.{given_function, kind_function, part_function};
-ghost use Rattle.bqn_syntax.specs.Form.{function_of as function_in};
-ghost use Rattle.bqn_syntax.specs.Plain.{derived_of, part_of};
+ghost use Rattle.bqn_machine.specs.Form.{given_function, kind_function, part_function};
+ghost use Rattle.bqn_machine.specs.Form.{function_of as function_in};
+ghost use Rattle.bqn_syntax.specs.grammar.Trees.{derived_of, part_of};
 
 use bqn_base::{Name, Role};
-use bqn_syntax::{Derived, Function, Kind, Part};
+use bqn_syntax::{Derived, Kind, Part};
+
+use crate::function::Function;
 
 fn is_show(name: &Name) -> bool
     ensures { result ≡ pointwise nat_eq name.now (codes "show") }
@@ -34,7 +36,7 @@ fn function_of_kind(kind: &Kind) -> Option<Function>
     }
 }
 
-#[tactic(auto, using(bqn_syntax::specs::Levels::levels))]
+#[tactic(auto, using(bqn_syntax::specs::grammar::TreeEquations::levels))]
 fn function_of_part(part: &Part) -> Option<Function>
     ensures { result ≡ part_function (part_of part.now) }
 {

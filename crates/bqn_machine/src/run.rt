@@ -7,7 +7,7 @@ use crate::code::Instr;
 use crate::end::End;
 use bqn_base::Fault;
 use bqn_io::Sink;
-use bqn_syntax::Function;
+use crate::function::Function;
 use std::alloc::Global;
 
 /// Calls a function on the number at the top.

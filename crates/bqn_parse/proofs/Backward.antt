@@ -1,7 +1,7 @@
 -- The last of the units is the first that is read.
 use Rattle.std.proofs.Common.{◌≡◌, false, List, [], ◌∷◌, ◌++◌, length, refl, ◌∙◌, arith}
 use Rattle.std.specs.Prelude.{◌==◌}
-use Rattle.bqn_syntax.specs.Units as units
+use Rattle.bqn_syntax.specs.grammar.Units as units
 use Rattle.bqn_parse.specs.declared.unit.Unit.{Unit}
 use Rattle.bqn_parse.specs.Leftward.{is_end}
 use Rattle.bqn_parse.specs.Views.{backward, backward_onto, unit_shown}

@@ -11,8 +11,8 @@ use Rattle.bqn_syntax.specs.declared.tree.Class.TheVariants as class_names
 use Rattle.bqn_syntax.specs.declared.sort.Tag.{Tag}
 use Rattle.bqn_syntax.specs.declared.sort.Tag.TheVariants as tag
 use Rattle.bqn_base.specs.declared.place.Place.{Place}
-use Rattle.bqn_syntax.specs.Plain.{Pattern, Skip, Header, bodies, body_of}
-use Rattle.bqn_syntax.specs.Classes as classes
+use Rattle.bqn_syntax.specs.grammar.Trees.{Pattern, Skip, Header, bodies, body_of}
+use Rattle.bqn_syntax.specs.grammar.Classes as classes
 use Rattle.bqn_headers.specs.declared.class.BodyMarks.{BodyMarks}
 use Rattle.bqn_headers.specs.Heading.{marks_shown}
 use Rattle.bqn_parse.specs.Marking.{at_most_one, brief, brief_header}

@@ -5,9 +5,9 @@ use Rattle.bqn_base.specs.declared.place.Place.{Place}
 use Rattle.bqn_base.specs.declared.refusal.Refusal.TheVariants as refusal
 use Rattle.bqn_syntax.specs.declared.tree.Expr.{Expr as CodeExpr}
 use Rattle.bqn_syntax.specs.declared.token.Token.{Token}
-use Rattle.bqn_syntax.specs.Items.{OfPart}
-use Rattle.bqn_syntax.specs.Parsing as parsing
-use Rattle.bqn_syntax.specs.Plain.{expr_of, exprs, Merge, Paren}
+use Rattle.bqn_syntax.specs.grammar.Items.{OfPart}
+use Rattle.bqn_syntax.specs.grammar.Parsing as parsing
+use Rattle.bqn_syntax.specs.grammar.Trees.{expr_of, exprs, Merge, Paren}
 use Rattle.bqn_parse.specs.declared.level.Level.{Level}
 use Rattle.bqn_parse.specs.Walking.{around_shown, level_shown}
 use Rattle.bqn_parse.proofs.Stepping.{pushed-shown}

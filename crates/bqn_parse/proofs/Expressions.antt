@@ -2,9 +2,9 @@
 use Rattle.std.proofs.Common.{◌≡◌, true, false, List, [], ◌∷◌, None, refl}
 use Rattle.std.specs.Option.{option_map}
 use Rattle.bqn_syntax.specs.declared.tree.Arrow.TheVariants.{Define, Export as Exports, Change}
-use Rattle.bqn_syntax.specs.Expressions.{exported, expression, statement, value, steps_of}
-use Rattle.bqn_syntax.specs.Plain.{Derived, Eval, Export, none}
-use Rattle.bqn_syntax.specs.Units.{Unit', Subject, Function, Absent, Alone, Arrow', Aim}
+use Rattle.bqn_syntax.specs.grammar.Expressions.{exported, expression, statement, value, steps_of}
+use Rattle.bqn_syntax.specs.grammar.Trees.{Derived, Eval, Export, none}
+use Rattle.bqn_syntax.specs.grammar.Units.{Unit', Subject, Function, Absent, Alone, Arrow', Aim}
 use Rattle.bqn_parse.specs.Leftward.{is_end, is_export}
 
 pub expression-changed : (f : Derived) (us : List Unit') → expression (Arrow' Change ∷ Function f ∷ us) ≡ value none (steps_of (Arrow' Change ∷ Function f ∷ us))

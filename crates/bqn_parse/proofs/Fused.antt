@@ -5,12 +5,12 @@ use Rattle.std.specs.Option.{option_map, option_and_then}
 use Rattle.bqn_syntax.specs.declared.token.Token.{Token}
 use Rattle.bqn_syntax.specs.declared.tree.Arrow.{Arrow}
 use Rattle.bqn_syntax.specs.declared.sort.Tag.TheVariants as tags
-use Rattle.bqn_syntax.specs.Expressions.{units_in}
-use Rattle.bqn_syntax.specs.Items as plain
-use Rattle.bqn_syntax.specs.Items.{Element, OfPart, OfList, Item, Standing, Drawn, Joining, Selecting, Wrong, Term, Draw, Terms, Reading, Between, At, Joined, Selected, reads, puts, finished, plain_term, aimed_term, with_name}
-use Rattle.bqn_syntax.specs.Plain.{Part, Leaf, Elements, Merge, Paren, Block, Field, Strand, Nothing}
-use Rattle.bqn_syntax.specs.Sorts.{tag, same_tag, is_word}
-use Rattle.bqn_syntax.specs.Units.{Unit', Row, row, Free, bind, binds, bound}
+use Rattle.bqn_syntax.specs.grammar.Expressions.{units_in}
+use Rattle.bqn_syntax.specs.grammar.Items as plain
+use Rattle.bqn_syntax.specs.grammar.Items.{Element, OfPart, OfList, Item, Standing, Drawn, Joining, Selecting, Wrong, Term, Draw, Terms, Reading, Between, At, Joined, Selected, reads, puts, finished, plain_term, aimed_term, with_name}
+use Rattle.bqn_syntax.specs.grammar.Trees.{Part, Leaf, Elements, Merge, Paren, Block, Field, Strand, Nothing}
+use Rattle.bqn_syntax.specs.grammar.Sorts.{tag, same_tag, is_word}
+use Rattle.bqn_syntax.specs.grammar.Units.{Unit', Row, row, Free, bind, binds, bound}
 use Rattle.bqn_parse.specs.Fused as fused
 use Rattle.bqn_parse.specs.Fused.{Piece, piece, with_term, next_at, drawn, put, ended, units_if, units_with}
 use Rattle.bqn_parse.specs.Following.{behind_of, ends_before}

@@ -2,8 +2,8 @@
 use Rattle.std.proofs.Common.{◌≡◌, ◌≤◌, List, [], ◌∷◌, ◌++◌, length, reverse, Bool, Option, Some, None, refl, sym, ap, ◌∙◌, arith}
 use Rattle.std.specs.Option.{option_map, option_and_then}
 use Rattle.bqn_syntax.specs.declared.tree.Arrow.{Arrow}
-use Rattle.bqn_syntax.specs.Items.{Element, Item, Standing, Drawn, Joining, Selecting, Wrong, each, element_pattern, group_pattern, onto_first, groups, only_group, piece_pattern}
-use Rattle.bqn_syntax.specs.Plain.{Pattern, StrandPattern, patterns}
+use Rattle.bqn_syntax.specs.grammar.Items.{Element, Item, Standing, Drawn, Joining, Selecting, Wrong, each, element_pattern, group_pattern, onto_first, groups, only_group, piece_pattern}
+use Rattle.bqn_syntax.specs.grammar.Trees.{Pattern, StrandPattern, patterns}
 use Rattle.bqn_parse.specs.declared.item.Item.{Item as CodeItem}
 use Rattle.bqn_parse.specs.Views.{items_of}
 use Rattle.bqn_parse.specs.Strands.{Strung, one_more, strung, behind_last, spelled, spelt, ended}

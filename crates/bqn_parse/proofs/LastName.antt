@@ -3,7 +3,7 @@ use Rattle.std.proofs.Common.{◌≡◌, ℕ, zero, suc, ◌-◌, List, [], ◌�
 use Rattle.std.specs.List.{slice_get}
 use Rattle.std.proofs.lemmas.Option.{slice_get_within}
 use Rattle.bqn_syntax.specs.declared.token.Token.{Token}
-use Rattle.bqn_syntax.specs.Sorts.{last_tag, kind_tag}
+use Rattle.bqn_syntax.specs.grammar.Sorts.{last_tag, kind_tag}
 
 same_some : {A : Type 0} {x y : A} → Some x ≡ Some y → y ≡ x
 same_some e = cc

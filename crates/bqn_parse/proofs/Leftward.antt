@@ -2,9 +2,9 @@
 use Rattle.std.proofs.Common.{◌≡◌, List, [], ◌∷◌, ◌++◌, map, Option, Some, None, refl, sym, ap, ◌∙◌}
 use Rattle.std.proofs.lemmas.List.{map-append}
 use Rattle.bqn_syntax.specs.declared.tree.Step.{Step}
-use Rattle.bqn_syntax.specs.Expressions.{more}
-use Rattle.bqn_syntax.specs.Plain as plain
-use Rattle.bqn_syntax.specs.Plain.{Steps, no_steps, and_steps, step_of, steps}
+use Rattle.bqn_syntax.specs.grammar.Expressions.{more}
+use Rattle.bqn_syntax.specs.grammar.Trees as plain
+use Rattle.bqn_syntax.specs.grammar.Trees.{Steps, no_steps, and_steps, step_of, steps}
 use Rattle.bqn_parse.specs.Leftward.{onto_steps, joined}
 
 -- one more step

@@ -6,8 +6,8 @@ use Rattle.bqn_syntax.specs.declared.token.Token.{Token}
 use Rattle.bqn_syntax.specs.declared.sort.Bracket.{Bracket}
 use Rattle.bqn_syntax.specs.declared.sort.Sort.{Sort}
 use Rattle.bqn_syntax.specs.declared.sort.Sort.TheVariants.{Opens}
-use Rattle.bqn_syntax.specs.Sorts.{sort_of}
-use Rattle.bqn_syntax.specs.Looks as plain
+use Rattle.bqn_syntax.specs.grammar.Sorts.{sort_of}
+use Rattle.bqn_syntax.specs.grammar.Looks as plain
 use Rattle.bqn_parse.specs.declared.looks.Ahead.{Ahead}
 use Rattle.bqn_parse.specs.declared.looks.Looks.{Looks}
 use Rattle.bqn_parse.specs.Looking.{ahead_shown, looks_shown, openings, stacked, with_opening}

@@ -3,8 +3,8 @@ use Rattle.std.proofs.Common.{◌≡◌, ◌+◌, ◌<◌, ◌≤◌, ℕ, lengt
 use Rattle.std.specs.Prelude.{◌||◌}
 use Rattle.std.proofs.Math.ListN.{drop_of_length-le}
 use Rattle.bqn_syntax.specs.declared.tree.Stmt.{Stmt as CodeStmt}
-use Rattle.bqn_syntax.specs.Plain.{stmt_of, stmts, Stmt, Eval, Predicate, Export, Stmts, no_stmts, and_stmts}
-use Rattle.bqn_syntax.specs.Classes as classes
+use Rattle.bqn_syntax.specs.grammar.Trees.{stmt_of, stmts, Stmt, Eval, Predicate, Export, Stmts, no_stmts, and_stmts}
+use Rattle.bqn_syntax.specs.grammar.Classes as classes
 use Rattle.bqn_parse.specs.Marking.{at_most_one}
 
 or-assoc : (a b c : Bool) → ((a || b) || c) ≡ (a || (b || c))

@@ -7,14 +7,14 @@ use Rattle.bqn_base.specs.declared.refusal.Refusal.TheVariants as refusal
 use Rattle.bqn_syntax.specs.declared.token.Token.{Token}
 use Rattle.bqn_syntax.specs.declared.sort.Sort.{Sort}
 use Rattle.bqn_syntax.specs.declared.sort.Sort.TheVariants.{Opens, Closes, Separates, Draws, Joins, Selects, Ends, Heads, Asks, Skips, Stands}
-use Rattle.bqn_syntax.specs.Sorts.{sort_of}
-use Rattle.bqn_syntax.specs.Brackets.{partners_of}
-use Rattle.bqn_syntax.specs.Looks as plain
-use Rattle.bqn_syntax.specs.Parsing as parsing
+use Rattle.bqn_syntax.specs.grammar.Sorts.{sort_of}
+use Rattle.bqn_syntax.specs.grammar.Brackets.{partners_of}
+use Rattle.bqn_syntax.specs.grammar.Looks as plain
+use Rattle.bqn_syntax.specs.grammar.Parsing as parsing
 use Rattle.std.specs.Prelude.{IfOk}
 use Rattle.bqn_syntax.specs.declared.tree.Tree.{Tree}
-use Rattle.bqn_syntax.specs.Grammar.{WellTreesAreFound, OnlyWellTreesAreFound, WellSpelled}
-use Rattle.bqn_syntax.specs.Plain.{Stmts, stmts, tree_of}
+use Rattle.bqn_syntax.specs.grammar.Grammar.{WellTreesAreFound, OnlyWellTreesAreFound, WellSpelled}
+use Rattle.bqn_syntax.specs.grammar.Trees.{Stmts, stmts, tree_of}
 use Rattle.bqn_parse.specs.declared.looks.Ahead.{Ahead}
 use Rattle.bqn_parse.specs.declared.level.Level.{Level}
 use Rattle.bqn_parse.specs.Looking.{ahead_by, ahead_shown, left_behind, openings, stacked, with_opening}

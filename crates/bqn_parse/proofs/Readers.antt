@@ -2,8 +2,8 @@
 use Rattle.std.proofs.Common.{◌≡◌, ◌<◌, List, [], ◌∷◌, ◌++◌, length, sym, ap, arith}
 use Rattle.std.proofs.lemmas.List.{map-append}
 use Rattle.std.specs.Option.{option_map}
-use Rattle.bqn_syntax.specs.Items.{Element as Piece, Operand, Target, each, element_part, element_pattern, plain_term, aimed_term}
-use Rattle.bqn_syntax.specs.Plain.{Part, Pattern, Strand, StrandPattern, parts, patterns}
+use Rattle.bqn_syntax.specs.grammar.Items.{Element as Piece, Operand, Target, each, element_part, element_pattern, plain_term, aimed_term}
+use Rattle.bqn_syntax.specs.grammar.Trees.{Part, Pattern, Strand, StrandPattern, parts, patterns}
 use Rattle.bqn_parse.specs.declared.item.Element.{Element}
 use Rattle.bqn_parse.specs.Strands.{elements_of}
 use Rattle.bqn_parse.specs.Views.{element_of}

@@ -3,10 +3,10 @@ use Rattle.std.proofs.Common.{◌≡◌, Bool, true, List, [], ◌∷◌, Option
 use Rattle.std.specs.Option.{option_map, option_and_then}
 use Rattle.bqn_syntax.specs.declared.sort.Tag.{Tag}
 use Rattle.bqn_syntax.specs.declared.sort.Tag.TheVariants as tags
-use Rattle.bqn_syntax.specs.Items.{Element, OfPart, OfList, Item, Standing, Drawn, Joining, Selecting, Wrong, Operand, Between, At, plain_term, aimed_term}
-use Rattle.bqn_syntax.specs.Plain.{Part, Use, Leaf, Elements, Merge, Paren, Block, Field, Strand, Nothing}
-use Rattle.bqn_syntax.specs.Sorts.{tag}
-use Rattle.bqn_syntax.specs.Units.{Unit', Binding, Free, Bound, Wanting, Row, row, alone, unit_of, bind, bind_part, beside, bound}
+use Rattle.bqn_syntax.specs.grammar.Items.{Element, OfPart, OfList, Item, Standing, Drawn, Joining, Selecting, Wrong, Operand, Between, At, plain_term, aimed_term}
+use Rattle.bqn_syntax.specs.grammar.Trees.{Part, Use, Leaf, Elements, Merge, Paren, Block, Field, Strand, Nothing}
+use Rattle.bqn_syntax.specs.grammar.Sorts.{tag}
+use Rattle.bqn_syntax.specs.grammar.Units.{Unit', Binding, Free, Bound, Wanting, Row, row, alone, unit_of, bind, bind_part, beside, bound}
 use Rattle.bqn_parse.specs.Fused.{Piece, piece, with_term, next_at, drawn, units_if, units_with}
 use Rattle.bqn_parse.specs.Following.{behind_of, ends_before, ends_by, is_no_modifier}
 use Rattle.bqn_parse.specs.Grouping.{settled, settled_by}

@@ -1,9 +1,9 @@
 -- A function with no modifier is a part by itself.
 use Rattle.std.proofs.Common.{◌≡◌, ◌<◌, List, [], ◌∷◌, map, length, Some, None, refl, arith}
 use Rattle.bqn_syntax.specs.declared.tree.ModUse.{ModUse}
-use Rattle.bqn_syntax.specs.Expressions.{single}
-use Rattle.bqn_syntax.specs.Plain.{Part, derived, uses, use_of}
-use Rattle.bqn_syntax.specs.Units.{Function}
+use Rattle.bqn_syntax.specs.grammar.Expressions.{single}
+use Rattle.bqn_syntax.specs.grammar.Trees.{Part, derived, uses, use_of}
+use Rattle.bqn_syntax.specs.grammar.Units.{Function}
 
 pub single-free : (x : Part) (us : List ModUse) → length us ≡ 0 → single (Function (derived x (uses (map use_of us)))) ≡ Some x
 single-free x [] none = refl

@@ -2,7 +2,7 @@
 use Rattle.std.proofs.Common.{◌≡◌, List, [], ◌∷◌, ◌++◌, Option, Some, None, refl, sym, ap, ◌∙◌, append_assoc}
 use Rattle.std.proofs.lemmas.List.{append-nil}
 use Rattle.std.specs.Option.{option_map}
-use Rattle.bqn_syntax.specs.Items.{both, each}
+use Rattle.bqn_syntax.specs.grammar.Items.{both, each}
 
 -- these results, and then those
 abbrev pub behind : {B : Type 0} → List B → Option (List B) → Option (List B)

@@ -6,10 +6,10 @@ use Rattle.bqn_syntax.specs.declared.sort.Tag.{Tag}
 use Rattle.bqn_syntax.specs.declared.token.Token.{Token}
 use Rattle.bqn_syntax.specs.declared.tree.Arrow.{Arrow}
 use Rattle.bqn_syntax.specs.declared.tree.Derived.{Derived}
-use Rattle.bqn_syntax.specs.Expressions.{single, targets}
-use Rattle.bqn_syntax.specs.Plain.{and_deriveds, deriveds, derived_of}
-use Rattle.bqn_syntax.specs.Sorts.{named}
-use Rattle.bqn_syntax.specs.Units.{Unit', Arrow'}
+use Rattle.bqn_syntax.specs.grammar.Expressions.{single, targets}
+use Rattle.bqn_syntax.specs.grammar.Trees.{and_deriveds, deriveds, derived_of}
+use Rattle.bqn_syntax.specs.grammar.Sorts.{named}
+use Rattle.bqn_syntax.specs.grammar.Units.{Unit', Arrow'}
 use Rattle.bqn_parse.specs.Trains.{parts_shown}
 
 pub found-snoc : (found : List (Token × Arrow)) (target : Token × Arrow) → reverse (found ++ target ∷ []) ≡ target ∷ reverse found

@@ -4,9 +4,9 @@ use Rattle.std.proofs.Math.ListN.{drop_of_length-le}
 use Rattle.std.proofs.lemmas.List.{map-append}
 use Rattle.bqn_base.specs.declared.place.Place.{Place}
 use Rattle.bqn_syntax.specs.declared.token.Token.{Token}
-use Rattle.bqn_syntax.specs.Items.{Item}
-use Rattle.bqn_syntax.specs.Expressions.{piece_predicate}
-use Rattle.bqn_syntax.specs.Parsing as parsing
+use Rattle.bqn_syntax.specs.grammar.Items.{Item}
+use Rattle.bqn_syntax.specs.grammar.Expressions.{piece_predicate}
+use Rattle.bqn_syntax.specs.grammar.Parsing as parsing
 use Rattle.bqn_parse.specs.Walking.{Moves}
 use Rattle.bqn_parse.specs.declared.error.ParseError.{ParseError}
 

@@ -1,6 +1,6 @@
 -- What drafts stand for.
 use Rattle.std.specs.Prelude.{map}
-use Rattle.bqn_syntax.specs.Plain.{Part, Derived, Leaf, Elements, Merge, Paren, Block, Field, Strand, Nothing, derived, exprs, no_uses, parts, uses, block_of, expr_of, part_of, use_of}
+use Rattle.bqn_syntax.specs.grammar.Trees.{Part, Derived, Leaf, Elements, Merge, Paren, Block, Field, Strand, Nothing, derived, exprs, no_uses, parts, uses, block_of, expr_of, part_of, use_of}
 use Rattle.bqn_parse.specs.declared.draft.Draft.{Draft}
 use Rattle.bqn_parse.specs.declared.draft.Draft.TheVariants as draft
 use Rattle.bqn_parse.specs.declared.draft.Field.{Field as FieldDraft}

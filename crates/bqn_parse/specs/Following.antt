@@ -2,8 +2,8 @@
 use Rattle.std.specs.Prelude.{Bool, true, false, List, [], ◌∷◌}
 use Rattle.bqn_syntax.specs.declared.sort.Tag.{Tag}
 use Rattle.bqn_syntax.specs.declared.sort.Tag.TheVariants as tags
-use Rattle.bqn_syntax.specs.Items.{OfPart, OfList, Item, Standing, Drawn, Joining, Selecting, Wrong}
-use Rattle.bqn_syntax.specs.Sorts.{tag}
+use Rattle.bqn_syntax.specs.grammar.Items.{OfPart, OfList, Item, Standing, Drawn, Joining, Selecting, Wrong}
+use Rattle.bqn_syntax.specs.grammar.Sorts.{tag}
 use Rattle.bqn_parse.specs.declared.following.Behind.{Behind}
 use Rattle.bqn_parse.specs.declared.following.Behind.TheVariants.{Asks, Draws, Else}
 

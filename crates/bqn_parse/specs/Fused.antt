@@ -4,10 +4,10 @@ use Rattle.std.specs.Option.{option_map, option_and_then}
 use Rattle.bqn_syntax.specs.declared.token.Token.{Token}
 use Rattle.bqn_syntax.specs.declared.tree.Arrow.{Arrow}
 use Rattle.bqn_syntax.specs.declared.sort.Tag.TheVariants as tags
-use Rattle.bqn_syntax.specs.Items.{Element, OfPart, Item, Standing, Drawn, Joining, Selecting, Wrong, Term, Reading, Between, At, Joined, Selected, plain_term, aimed_term, with_name}
-use Rattle.bqn_syntax.specs.Plain.{Part, Leaf}
-use Rattle.bqn_syntax.specs.Sorts.{tag, same_tag, is_word}
-use Rattle.bqn_syntax.specs.Units.{Unit', Arrow', Row, bind, beside, bound}
+use Rattle.bqn_syntax.specs.grammar.Items.{Element, OfPart, Item, Standing, Drawn, Joining, Selecting, Wrong, Term, Reading, Between, At, Joined, Selected, plain_term, aimed_term, with_name}
+use Rattle.bqn_syntax.specs.grammar.Trees.{Part, Leaf}
+use Rattle.bqn_syntax.specs.grammar.Sorts.{tag, same_tag, is_word}
+use Rattle.bqn_syntax.specs.grammar.Units.{Unit', Arrow', Row, bind, beside, bound}
 
 -- the units so far, and what is being read
 pub record Piece : Type 0 where

@@ -1,7 +1,7 @@
 -- What the units so far stand for, while modifiers are bound.
 use Rattle.std.specs.Prelude.{List, [], ◌∷◌, map}
-use Rattle.bqn_syntax.specs.Plain.{Part, Use, use_of}
-use Rattle.bqn_syntax.specs.Units as units
+use Rattle.bqn_syntax.specs.grammar.Trees.{Part, Use, use_of}
+use Rattle.bqn_syntax.specs.grammar.Units as units
 use Rattle.bqn_parse.specs.declared.units.Binding.{Binding}
 use Rattle.bqn_parse.specs.declared.units.Binding.TheVariants as binding
 use Rattle.bqn_parse.specs.declared.units.Grouping.{Grouping}

@@ -1,9 +1,9 @@
 -- What units that are read leftward stand for.
 use Rattle.std.specs.Prelude.{ℕ, ◌+◌, Bool, true, false, List, [], ◌∷◌, length, Option, Some, None}
 use Rattle.bqn_syntax.specs.declared.tree.Arrow.TheVariants as arrow
-use Rattle.bqn_syntax.specs.Expressions.{steps_of}
-use Rattle.bqn_syntax.specs.Plain.{Step, Steps, and_steps, steps}
-use Rattle.bqn_syntax.specs.Units.{Unit', Arrow'}
+use Rattle.bqn_syntax.specs.grammar.Expressions.{steps_of}
+use Rattle.bqn_syntax.specs.grammar.Trees.{Step, Steps, and_steps, steps}
+use Rattle.bqn_syntax.specs.grammar.Units.{Unit', Arrow'}
 use Rattle.bqn_parse.specs.declared.steps.Left.{Left}
 use Rattle.bqn_parse.specs.declared.steps.Left.TheVariants as left
 use Rattle.bqn_parse.specs.declared.unit.Unit.{Unit as CodeUnit}

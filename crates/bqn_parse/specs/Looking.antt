@@ -3,8 +3,8 @@ use Rattle.std.specs.Prelude.{false, List, [], ◌∷◌, map, reverse}
 use Rattle.bqn_syntax.specs.declared.token.Token.{Token}
 use Rattle.bqn_syntax.specs.declared.sort.Sort.{Sort}
 use Rattle.bqn_syntax.specs.declared.sort.Sort.TheVariants.{Opens, Closes, Separates, Draws, Joins, Selects, Ends, Heads, Asks, Skips, Stands}
-use Rattle.bqn_syntax.specs.Sorts.{sort_of}
-use Rattle.bqn_syntax.specs.Looks as plain
+use Rattle.bqn_syntax.specs.grammar.Sorts.{sort_of}
+use Rattle.bqn_syntax.specs.grammar.Looks as plain
 use Rattle.bqn_parse.specs.declared.looks.Ahead.{Ahead}
 use Rattle.bqn_parse.specs.declared.looks.Looks.{Looks}
 

@@ -1,8 +1,8 @@
 -- What the marks of statements and bodies show.
 use Rattle.std.specs.Prelude.{ℕ, nat_le, if◌then◌else◌, None}
 use Rattle.std.specs.Option.{option_map}
-use Rattle.bqn_syntax.specs.Plain.{Header, Skip}
-use Rattle.bqn_syntax.specs.Classes as classes
+use Rattle.bqn_syntax.specs.grammar.Trees.{Header, Skip}
+use Rattle.bqn_syntax.specs.grammar.Classes as classes
 use Rattle.bqn_parse.specs.declared.marks.Seen.{Seen}
 
 abbrev pub seen_shown : Seen → classes.Seen

@@ -1,8 +1,8 @@
 -- What is being read of a piece.
 use Rattle.std.specs.Prelude.{Bool, List, [], ◌∷◌, ◌++◌, map, Option, Some, None}
 use Rattle.std.specs.Option.{option_map}
-use Rattle.bqn_syntax.specs.Items as items
-use Rattle.bqn_syntax.specs.Plain.{Pattern}
+use Rattle.bqn_syntax.specs.grammar.Items as items
+use Rattle.bqn_syntax.specs.grammar.Trees.{Pattern}
 use Rattle.bqn_parse.specs.declared.item.Element.{Element}
 use Rattle.bqn_parse.specs.declared.pattern.Joined.{Joined}
 use Rattle.bqn_parse.specs.declared.terms.Reader.{Reader}

@@ -6,9 +6,9 @@ use Rattle.bqn_syntax.specs.declared.sort.Tag.TheVariants as tag
 use Rattle.bqn_syntax.specs.declared.token.Token.{Token}
 use Rattle.bqn_syntax.specs.declared.tree.Arrow.{Arrow}
 use Rattle.bqn_syntax.specs.declared.tree.Derived.{Derived as CodeDerived}
-use Rattle.bqn_syntax.specs.Expressions as expressions
-use Rattle.bqn_syntax.specs.Plain.{Expr, Train, Deriveds, deriveds, derived_of}
-use Rattle.bqn_syntax.specs.Units.{Unit'}
+use Rattle.bqn_syntax.specs.grammar.Expressions as expressions
+use Rattle.bqn_syntax.specs.grammar.Trees.{Expr, Train, Deriveds, deriveds, derived_of}
+use Rattle.bqn_syntax.specs.grammar.Units.{Unit'}
 use Rattle.bqn_parse.specs.declared.train.Turn.{Turn}
 use Rattle.bqn_parse.specs.declared.train.Turn.TheVariants as turn
 

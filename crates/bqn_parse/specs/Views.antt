@@ -3,11 +3,11 @@ use Rattle.std.specs.Prelude.{◌≡◌, Bool, true, false, List, [], ◌∷◌,
 use Rattle.bqn_base.specs.declared.refusal.Refusal.{Refusal}
 use Rattle.bqn_syntax.specs.declared.token.Token.{Token}
 use Rattle.bqn_syntax.specs.declared.tree.Tree.{Tree}
-use Rattle.bqn_syntax.specs.Items as items
-use Rattle.bqn_syntax.specs.Units as units
-use Rattle.bqn_syntax.specs.Plain.{pattern_of, Stmts, tree_of}
-use Rattle.bqn_syntax.specs.Spells.{Spells}
-use Rattle.bqn_syntax.specs.Well.{Well}
+use Rattle.bqn_syntax.specs.grammar.Items as items
+use Rattle.bqn_syntax.specs.grammar.Units as units
+use Rattle.bqn_syntax.specs.grammar.Trees.{pattern_of, Stmts, tree_of}
+use Rattle.bqn_syntax.specs.grammar.Spells.{Spells}
+use Rattle.bqn_syntax.specs.grammar.Well.{Well}
 use Rattle.bqn_parse.specs.Drafts.{draft_of, function_of}
 use Rattle.bqn_parse.specs.declared.item.Element.{Element}
 use Rattle.bqn_parse.specs.declared.item.Element.TheVariants as element

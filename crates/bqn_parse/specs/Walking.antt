@@ -5,8 +5,8 @@ use Rattle.std.specs.Option.{option_map}
 use Rattle.bqn_base.specs.declared.refusal.Refusal.{Refusal}
 use Rattle.bqn_syntax.specs.declared.token.Token.{Token}
 use Rattle.bqn_syntax.specs.declared.sort.Inside.TheVariants as inside
-use Rattle.bqn_syntax.specs.Parsing as parsing
-use Rattle.bqn_syntax.specs.Plain.{expr_of, stmt_of, pattern_of, header_of, body_of}
+use Rattle.bqn_syntax.specs.grammar.Parsing as parsing
+use Rattle.bqn_syntax.specs.grammar.Trees.{expr_of, stmt_of, pattern_of, header_of, body_of}
 use Rattle.bqn_parse.specs.declared.error.ParseError.{ParseError}
 use Rattle.bqn_parse.specs.declared.error.ParseError.TheVariants.{Refused, Memory}
 use Rattle.bqn_parse.specs.declared.level.Level.{Level}

@@ -2,8 +2,8 @@ ghost use Rattle.std.specs.Prelude.{◌≡◌, List, map, Ok};
 ghost use Rattle.bqn_syntax.specs.declared.token.Token.{Token};
 ghost use Rattle.bqn_base.specs.declared.place.Place.{Place};
 ghost use Rattle.bqn_syntax.specs.declared.sort.Inside.TheVariants as inside;
-ghost use Rattle.bqn_syntax.specs.Parsing as parsing;
-ghost use Rattle.bqn_syntax.specs.Plain.{expr_of};
+ghost use Rattle.bqn_syntax.specs.grammar.Parsing as parsing;
+ghost use Rattle.bqn_syntax.specs.grammar.Trees.{expr_of};
 ghost use Rattle.bqn_parse.specs.Views.{element_of};
 ghost use Rattle.bqn_parse.specs.Walking.{around_shown, level_shown, walk_shown, Made, Moves};
 
@@ -35,7 +35,7 @@ fn closes(bracket: Bracket, inside: Inside) -> bool
 }
 
 /// Parentheses that hold these pieces.
-#[tactic(auto, using(bqn_syntax::specs::Levels::levels, crate::proofs::Closing::parens_laws))]
+#[tactic(auto, using(bqn_syntax::specs::grammar::TreeEquations::levels, crate::proofs::Closing::parens_laws))]
 fn parens<'t>(
     alloc: Global,
     place: Place,
@@ -53,7 +53,7 @@ fn parens<'t>(
 }
 
 /// The array whose cells are these pieces; it has one at least.
-#[tactic(auto, using(bqn_syntax::specs::Levels::levels, crate::proofs::Closing::merge_laws))]
+#[tactic(auto, using(bqn_syntax::specs::grammar::TreeEquations::levels, crate::proofs::Closing::merge_laws))]
 fn merge<'t>(alloc: Global, place: Place, pieces: &mut Vec<Expr>) -> Result<Element<'t>, ParseError>
     ensures { Made (parsing.merge_part place (map expr_of pieces.old.items)) element_of result }
 {
@@ -74,7 +74,7 @@ fn whole_block<'t>(alloc: Global, level: &mut Level<'t>) -> Result<Element<'t>, 
 }
 
 /// What a level is as one element, where it closes at this place.
-#[tactic(auto, using(bqn_syntax::specs::Levels::levels))]
+#[tactic(auto, using(bqn_syntax::specs::grammar::TreeEquations::levels))]
 fn whole<'t>(alloc: Global, place: Place, level: &mut Level<'t>) -> Result<Element<'t>, ParseError>
     ensures { (tokens : List Token) → Made (parsing.whole level.old.inside place (level_shown tokens level.old)) element_of result }
 {

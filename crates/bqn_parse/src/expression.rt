@@ -1,10 +1,10 @@
 ghost use Rattle.std.specs.Prelude.{◌≡◌, IfOk, ◌∷◌, map};
 ghost use Rattle.std.specs.Option.{option_map};
-ghost use Rattle.bqn_syntax.specs.Expressions as expressions;
-ghost use Rattle.bqn_syntax.specs.Expressions.{steps_of};
-ghost use Rattle.bqn_syntax.specs.Plain as plain;
-ghost use Rattle.bqn_syntax.specs.Plain.{Eval, Export, expr_of, some, step_of, stmt_of};
-ghost use Rattle.bqn_syntax.specs.Units as units;
+ghost use Rattle.bqn_syntax.specs.grammar.Expressions as expressions;
+ghost use Rattle.bqn_syntax.specs.grammar.Expressions.{steps_of};
+ghost use Rattle.bqn_syntax.specs.grammar.Trees as plain;
+ghost use Rattle.bqn_syntax.specs.grammar.Trees.{Eval, Export, expr_of, some, step_of, stmt_of};
+ghost use Rattle.bqn_syntax.specs.grammar.Units as units;
 ghost use Rattle.bqn_syntax.specs.declared.tree.Arrow.TheVariants as arrows;
 ghost use Rattle.bqn_parse.specs.Drafts.{draft_of, function_of};
 ghost use Rattle.bqn_parse.specs.Leftward.{is_end, is_export, left_shown};
@@ -22,7 +22,7 @@ use bqn_syntax::{Arrow, Expr, Step, Stmt};
 use std::alloc::Global;
 
 /// The value with this last part, of which these steps have been read, or none.
-#[tactic(auto, using(bqn_syntax::specs::Levels::levels))]
+#[tactic(auto, using(bqn_syntax::specs::grammar::TreeEquations::levels))]
 #[inline(always)]
 fn value<'t>(
     alloc: Global,
@@ -148,7 +148,7 @@ fn ends_in_arrow<'t>(
 }
 
 /// An expression that ends in a modifier by itself.
-#[tactic(auto, using(bqn_syntax::specs::Levels::levels))]
+#[tactic(auto, using(bqn_syntax::specs::grammar::TreeEquations::levels))]
 fn ends_in_modifier<'t>(
     alloc: Global,
     draft: Draft<'t>,
@@ -209,7 +209,7 @@ fn is_export(unit: &Unit<'_>) -> bool
 }
 
 /// The export of a unit, or none.
-#[tactic(auto, using(bqn_syntax::specs::Levels::levels))]
+#[tactic(auto, using(bqn_syntax::specs::grammar::TreeEquations::levels))]
 fn export_of(unit: Unit<'_>) -> Result<Option<Stmt>, Memory>
     ensures { IfOk result (λ s. option_map stmt_of s ≡ option_map (λ q. Export q) (expressions.exported (unit_shown unit.entry))) }
 {
@@ -250,7 +250,7 @@ fn export<'t>(left: &mut Vec<Unit<'t>>) -> Result<Option<Stmt>, Memory>
 }
 
 /// An expression that is evaluated, or none.
-#[tactic(auto, using(bqn_syntax::specs::Levels::levels))]
+#[tactic(auto, using(bqn_syntax::specs::grammar::TreeEquations::levels))]
 fn evaluated<'t>(
     alloc: Global,
     unit: Unit<'t>,

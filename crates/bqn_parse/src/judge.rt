@@ -1,9 +1,9 @@
 ghost use Rattle.std.specs.Prelude.{◌≡◌};
 ghost use Rattle.bqn_base.specs.declared.refusal.Refusal.TheVariants as refusal;
 ghost use Rattle.bqn_parse.specs.declared.error.ParseError.TheVariants as error;
-ghost use Rattle.bqn_syntax.specs.Expressions as expressions;
-ghost use Rattle.bqn_syntax.specs.Items as items;
-ghost use Rattle.bqn_syntax.specs.Parsing as parsing;
+ghost use Rattle.bqn_syntax.specs.grammar.Expressions as expressions;
+ghost use Rattle.bqn_syntax.specs.grammar.Items as items;
+ghost use Rattle.bqn_syntax.specs.grammar.Parsing as parsing;
 ghost use Rattle.bqn_parse.specs.Walking.{from_first, level_shown, Moves};
 
 use crate::error::ParseError;

@@ -1,7 +1,7 @@
 ghost use Rattle.std.specs.Prelude.{◌≡◌, List, map, drop, IfOk, None, Ok};
 ghost use Rattle.std.specs.Option.{option_map};
-ghost use Rattle.bqn_syntax.specs.Parsing as parsing;
-ghost use Rattle.bqn_syntax.specs.Plain.{expr_of, header_of, pattern_of, stmt_of};
+ghost use Rattle.bqn_syntax.specs.grammar.Parsing as parsing;
+ghost use Rattle.bqn_syntax.specs.grammar.Trees.{expr_of, header_of, pattern_of, stmt_of};
 ghost use Rattle.bqn_syntax.specs.declared.token.Token.{Token};
 ghost use Rattle.bqn_parse.specs.Views.{item_of};
 ghost use Rattle.bqn_parse.specs.Walking.{level_shown, Moves};
@@ -174,7 +174,7 @@ impl<'t> Level<'t> {
     }
 
     /// The body that is being read ends.
-    #[tactic(auto, using(bqn_syntax::specs::Levels::levels, crate::proofs::Walking::append_laws))]
+    #[tactic(auto, using(bqn_syntax::specs::grammar::TreeEquations::levels, crate::proofs::Walking::append_laws))]
     pub fn end_body(&mut self, alloc: Global) -> Result<(), Memory>
         ensures { IfOk result (λ done. (tokens : List Token) → level_shown tokens self.new ≡ parsing.and_body (level_shown tokens self.old)) }
     {

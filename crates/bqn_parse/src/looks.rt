@@ -1,6 +1,6 @@
 ghost use Rattle.std.specs.Prelude.{◌≡◌, Ok};
-ghost use Rattle.bqn_syntax.specs.Looks.{first_of, look, rest_of};
-ghost use Rattle.bqn_syntax.specs.Sorts.{sort_of};
+ghost use Rattle.bqn_syntax.specs.grammar.Looks.{first_of, look, rest_of};
+ghost use Rattle.bqn_syntax.specs.grammar.Sorts.{sort_of};
 ghost use Rattle.bqn_parse.specs.Looking.{ahead_by, ahead_shown, stacked, left_behind, looks_shown, openings, with_opening};
 ghost use Rattle.bqn_parse.specs.Walking.{Made, Moves};
 

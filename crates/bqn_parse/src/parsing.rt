@@ -1,8 +1,8 @@
 ghost use Rattle.std.specs.Prelude.{◌≡◌, ◌≤◌, ◌^◌, IfOk, length};
-ghost use Rattle.bqn_syntax.specs.Grammar.{WellSpelled};
-ghost use Rattle.bqn_syntax.specs.Parsing.{ended, nowhere, parsed, program_of, walk};
+ghost use Rattle.bqn_syntax.specs.grammar.Grammar.{WellSpelled};
+ghost use Rattle.bqn_syntax.specs.grammar.Parsing.{ended, nowhere, parsed, program_of, walk};
 ghost use Rattle.bqn_parse.specs.Looking.{stacked, openings};
-ghost use Rattle.bqn_syntax.specs.Plain.{tree_of};
+ghost use Rattle.bqn_syntax.specs.grammar.Trees.{tree_of};
 ghost use Rattle.bqn_parse.specs.Views.{Finds, Gives};
 ghost use Rattle.bqn_parse.specs.Walking.{start, walk_shown};
 

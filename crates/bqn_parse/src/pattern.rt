@@ -1,7 +1,7 @@
 ghost use Rattle.std.specs.Prelude.{◌≡◌, IfOk, reverse};
 ghost use Rattle.std.specs.Option.{option_map};
-ghost use Rattle.bqn_syntax.specs.Items.{piece_pattern, group_pattern};
-ghost use Rattle.bqn_syntax.specs.Plain.{pattern_of};
+ghost use Rattle.bqn_syntax.specs.grammar.Items.{piece_pattern, group_pattern};
+ghost use Rattle.bqn_syntax.specs.grammar.Trees.{pattern_of};
 ghost use Rattle.bqn_parse.specs.Strands.{elements_of, ended, one_element, one_joiner, one_more, spelt, strung_of};
 ghost use Rattle.bqn_parse.specs.Views.{element_of, item_of, items_of, when};
 
@@ -21,7 +21,7 @@ struct Joined<'t> {
 }
 
 /// The pattern that joined elements are: one element, or several that are a strand.
-#[tactic(auto, using(bqn_syntax::specs::Levels::levels, crate::proofs::Groups::group_laws))]
+#[tactic(auto, using(bqn_syntax::specs::grammar::TreeEquations::levels, crate::proofs::Groups::group_laws))]
 fn group<'t>(
     alloc: Global,
     literals: bool,

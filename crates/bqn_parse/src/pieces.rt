@@ -1,7 +1,7 @@
 ghost use Rattle.std.specs.Prelude.{◌≡◌, IfOk};
 ghost use Rattle.std.specs.Option.{option_map};
-ghost use Rattle.bqn_syntax.specs.Expressions as expressions;
-ghost use Rattle.bqn_syntax.specs.Plain.{expr_of, stmt_of};
+ghost use Rattle.bqn_syntax.specs.grammar.Expressions as expressions;
+ghost use Rattle.bqn_syntax.specs.grammar.Trees.{expr_of, stmt_of};
 ghost use Rattle.bqn_parse.specs.Views.{items_of};
 
 use crate::expression::{expression, statement};
@@ -43,7 +43,7 @@ pub fn piece_statement<'t>(
 }
 
 /// The predicate of this condition, which is a value, or none.
-#[tactic(auto, using(bqn_syntax::specs::Levels::levels))]
+#[tactic(auto, using(bqn_syntax::specs::grammar::TreeEquations::levels))]
 fn predicate(condition: Expr) -> Option<Stmt>
     ensures { option_map stmt_of result ≡ expressions.predicate (expr_of condition) }
 {

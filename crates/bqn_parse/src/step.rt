@@ -1,7 +1,7 @@
 ghost use Rattle.std.specs.Prelude.{◌≡◌, ◌≤◌, ◌^◌, List, drop, length, true};
 ghost use Rattle.bqn_syntax.specs.declared.token.Token.{Token};
-ghost use Rattle.bqn_syntax.specs.Parsing as parsing;
-ghost use Rattle.bqn_syntax.specs.Sorts.{sort_of};
+ghost use Rattle.bqn_syntax.specs.grammar.Parsing as parsing;
+ghost use Rattle.bqn_syntax.specs.grammar.Sorts.{sort_of};
 ghost use Rattle.bqn_parse.specs.Looking.{ahead_shown};
 ghost use Rattle.bqn_parse.specs.Views.{item_of};
 ghost use Rattle.bqn_parse.specs.Walking.{from_first, level_shown, walk_shown, Moves};
@@ -242,7 +242,7 @@ fn colon<'t>(
 }
 
 /// One token, which has this index and behind whose bracket this stands.
-#[tactic(auto, using(bqn_syntax::specs::Levels::levels))]
+#[tactic(auto, using(bqn_syntax::specs::grammar::TreeEquations::levels))]
 #[inline(always)]
 pub fn step<'t>(
     alloc: Global,

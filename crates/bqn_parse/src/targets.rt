@@ -1,8 +1,8 @@
 ghost use Rattle.std.specs.Prelude.{◌≡◌, ◌≤◌, ◌+◌, IfOk, [], ◌∷◌, length, reverse};
 ghost use Rattle.std.specs.Option.{option_and_then, option_map};
-ghost use Rattle.bqn_syntax.specs.Expressions.{single, targets};
-ghost use Rattle.bqn_syntax.specs.Sorts.{named};
-ghost use Rattle.bqn_syntax.specs.Units.{Arrow'};
+ghost use Rattle.bqn_syntax.specs.grammar.Expressions.{single, targets};
+ghost use Rattle.bqn_syntax.specs.grammar.Sorts.{named};
+ghost use Rattle.bqn_syntax.specs.grammar.Units.{Arrow'};
 ghost use Rattle.bqn_parse.specs.Trains.{targets_if};
 ghost use Rattle.bqn_parse.specs.Views.{backward, unit_shown};
 

@@ -1,8 +1,8 @@
 ghost use Rattle.std.specs.Prelude.{◌≡◌, ◌<◌, IfOk, IsTrue, [], ◌∷◌, length, reverse};
 ghost use Rattle.std.specs.Option.{option_and_then, option_map};
-ghost use Rattle.bqn_syntax.specs.Expressions as expressions;
-ghost use Rattle.bqn_syntax.specs.Items as items;
-ghost use Rattle.bqn_syntax.specs.Units.{bound};
+ghost use Rattle.bqn_syntax.specs.grammar.Expressions as expressions;
+ghost use Rattle.bqn_syntax.specs.grammar.Items as items;
+ghost use Rattle.bqn_syntax.specs.grammar.Units.{bound};
 ghost use Rattle.bqn_parse.specs.Drafts.{draft_of, field_of};
 ghost use Rattle.bqn_parse.specs.Fused.{draw, drawn, ended, join, piece, put, select, stand, units_if, units_with, with_term};
 ghost use Rattle.bqn_parse.specs.declared.terms.Reading.TheVariants as readings;
@@ -40,7 +40,7 @@ struct Reader<'t> {
 }
 
 /// The strand of several elements.
-#[tactic(auto, using(bqn_syntax::specs::Levels::levels, crate::proofs::Readers::strand_laws))]
+#[tactic(auto, using(bqn_syntax::specs::grammar::TreeEquations::levels, crate::proofs::Readers::strand_laws))]
 fn plain_strand<'t>(
     alloc: Global,
     grouping: &mut Grouping<'t>,
@@ -63,7 +63,7 @@ fn plain_strand<'t>(
 }
 
 /// The pattern of several elements.
-#[tactic(auto, using(bqn_syntax::specs::Levels::levels, crate::proofs::Readers::strand_laws))]
+#[tactic(auto, using(bqn_syntax::specs::grammar::TreeEquations::levels, crate::proofs::Readers::strand_laws))]
 fn aimed_strand<'t>(
     alloc: Global,
     grouping: &mut Grouping<'t>,
@@ -86,7 +86,7 @@ fn aimed_strand<'t>(
 }
 
 /// An element by itself, where no arrow follows.
-#[tactic(auto, using(bqn_syntax::specs::Levels::levels))]
+#[tactic(auto, using(bqn_syntax::specs::grammar::TreeEquations::levels))]
 #[inline(always)]
 fn plain_alone<'t>(
     alloc: Global,
@@ -102,7 +102,7 @@ fn plain_alone<'t>(
 }
 
 /// An element by itself, directly before an arrow: a list there is a pattern.
-#[tactic(auto, using(bqn_syntax::specs::Levels::levels))]
+#[tactic(auto, using(bqn_syntax::specs::grammar::TreeEquations::levels))]
 #[inline(always)]
 fn aimed_alone<'t>(
     alloc: Global,
@@ -153,7 +153,7 @@ fn aimed_term<'t>(
 }
 
 /// One more name behind a part.
-#[tactic(auto, using(bqn_syntax::specs::Levels::levels))]
+#[tactic(auto, using(bqn_syntax::specs::grammar::TreeEquations::levels))]
 fn with_name<'t>(alloc: Global, draft: Draft<'t>, name: &Token) -> Result<Field, Memory>
     ensures { IfOk result (λ field. field_of field ≡ items.with_name (draft_of draft.entry) name.now) }
 {
@@ -169,7 +169,7 @@ fn with_name<'t>(alloc: Global, draft: Draft<'t>, name: &Token) -> Result<Field,
 }
 
 /// The field that a dot asks for.
-#[tactic(auto, using(bqn_syntax::specs::Levels::levels))]
+#[tactic(auto, using(bqn_syntax::specs::grammar::TreeEquations::levels))]
 fn selected<'t>(
     alloc: Global,
     reader: &mut Reader<'t>,
@@ -337,7 +337,7 @@ fn plain_settled<'t>(
 }
 
 /// An element by itself, directly before an arrow.
-#[tactic(auto, using(bqn_syntax::specs::Levels::levels, crate::proofs::Settled::beside_laws))]
+#[tactic(auto, using(bqn_syntax::specs::grammar::TreeEquations::levels, crate::proofs::Settled::beside_laws))]
 #[inline(always)]
 fn aimed_settled<'t>(
     alloc: Global,

@@ -1,8 +1,8 @@
 ghost use Rattle.std.specs.Prelude.{◌≡◌, ◌≤◌, ◌+◌, IfOk, length, true, false};
 ghost use Rattle.std.specs.Option.{option_map};
-ghost use Rattle.bqn_syntax.specs.Expressions.{train};
-ghost use Rattle.bqn_syntax.specs.Plain as plain;
-ghost use Rattle.bqn_syntax.specs.Plain.{and_deriveds, expr_of, no_deriveds, no_uses};
+ghost use Rattle.bqn_syntax.specs.grammar.Expressions.{train};
+ghost use Rattle.bqn_syntax.specs.grammar.Trees as plain;
+ghost use Rattle.bqn_syntax.specs.grammar.Trees.{and_deriveds, expr_of, no_deriveds, no_uses};
 ghost use Rattle.bqn_parse.specs.declared.train.Turn.TheVariants as turn;
 ghost use Rattle.bqn_parse.specs.Drafts.{draft_of, function_of};
 ghost use Rattle.bqn_parse.specs.Trains.{parts_shown, turn_left, turn_shown};
@@ -29,7 +29,7 @@ enum Turn {
 }
 
 /// A function is one more part.
-#[tactic(auto, using(crate::proofs::Trains::train_laws, bqn_syntax::specs::Levels::levels))]
+#[tactic(auto, using(crate::proofs::Trains::train_laws, bqn_syntax::specs::grammar::TreeEquations::levels))]
 fn push_function<'t>(
     alloc: Global,
     parts: &mut Vec<Derived>,
@@ -41,7 +41,7 @@ fn push_function<'t>(
 }
 
 /// A part with no modifier is one more part.
-#[tactic(auto, using(crate::proofs::Trains::train_laws, bqn_syntax::specs::Levels::levels))]
+#[tactic(auto, using(crate::proofs::Trains::train_laws, bqn_syntax::specs::grammar::TreeEquations::levels))]
 fn push_alone<'t>(alloc: Global, parts: &mut Vec<Derived>, draft: Draft<'t>) -> Result<(), Memory>
     ensures { IfOk result (λ done. parts_shown parts.new.items ≡ and_deriveds (plain.derived (draft_of draft.entry) no_uses) (parts_shown parts.old.items)) }
 {
@@ -106,7 +106,7 @@ fn any_part<'t>(
 }
 
 /// A train whose parts are all known, and its targets.
-#[tactic(auto, using(bqn_syntax::specs::Levels::levels))]
+#[tactic(auto, using(bqn_syntax::specs::grammar::TreeEquations::levels))]
 fn aimed<'t>(
     alloc: Global,
     parts: Vec<Derived>,

@@ -1,7 +1,7 @@
 -- The last character of a word.
 use Rattle.std.proofs.Common.{◌≡◌, ◌-◌, ◌+◌, ◌<◌, ℕ, zero, suc, false, List, [], ◌∷◌, length, refl, ap, arith, Option, Some, None, slice_get}
 use Rattle.std.specs.Prelude.{◌==◌}
-use Rattle.bqn_syntax.specs.Words.{ends_in_underscore}
+use Rattle.bqn_syntax.specs.text.Words.{ends_in_underscore}
 
 ends-at : (word : List ℕ) (i c : ℕ) → i + 1 ≡ length word → slice_get word i ≡ Some c → ends_in_underscore word ≡ (c == 95)
 ends-at [] i c l e = absurd (omega arith)

@@ -9,7 +9,7 @@ use Rattle.bqn_syntax.specs.declared.open.Open.{Open}
 use Rattle.bqn_syntax.specs.declared.token.Kind.{Kind}
 use Rattle.bqn_syntax.specs.declared.token.Kind.TheVariants as kind
 use Rattle.bqn_syntax.specs.declared.token.Token.{Token}
-use Rattle.bqn_syntax.specs.Brackets.{Nesting, is_opening, is_closing, closing_of, alone, opened, closed, marked, behind_token, at_end, nested, partners_of}
+use Rattle.bqn_syntax.specs.grammar.Brackets.{Nesting, is_opening, is_closing, closing_of, alone, opened, closed, marked, behind_token, at_end, nested, partners_of}
 use Rattle.bqn_roles.specs.declared.brackets.Scan.{Scan}
 use Rattle.bqn_roles.specs.Nesting.{AllBefore, Sound, shown}
 

@@ -2,7 +2,7 @@
 use Rattle.std.specs.Prelude.{◌≡◌, ◌<◌, ℕ, List, [], ◌∷◌, reverse, length, Result, Ok, Err}
 use Rattle.bqn_base.specs.declared.refusal.Refusal.{Refusal}
 use Rattle.bqn_syntax.specs.declared.open.Open.{Open}
-use Rattle.bqn_syntax.specs.Brackets.{Nesting}
+use Rattle.bqn_syntax.specs.grammar.Brackets.{Nesting}
 use Rattle.bqn_roles.specs.declared.brackets.Groups.{Groups}
 use Rattle.bqn_roles.specs.declared.brackets.Scan.{Scan}
 use Rattle.bqn_roles.specs.declared.error.NestError.{NestError}

@@ -1,5 +1,5 @@
 ghost use Rattle.std.specs.Prelude.{◌≡◌, ◌≤◌, ◌^◌, length};
-ghost use Rattle.bqn_syntax.specs.Brackets.{behind_token, closed, closing_of, is_closing, is_opening, marked, opened, partners_of};
+ghost use Rattle.bqn_syntax.specs.grammar.Brackets.{behind_token, closed, closing_of, is_closing, is_opening, marked, opened, partners_of};
 ghost use Rattle.bqn_roles.specs.Nesting.{Gives, Moves, Sound, shown};
 
 use crate::error::NestError;

@@ -1,5 +1,5 @@
 ghost use Rattle.std.specs.Prelude.{◌≡◌};
-ghost use Rattle.bqn_syntax.specs.Words.{begins_subject, ends_in_underscore, role_of};
+ghost use Rattle.bqn_syntax.specs.text.Words.{begins_subject, ends_in_underscore, role_of};
 
 use bqn_base::Role;
 

@@ -1,8 +1,8 @@
 -- One more in front of a list that is filled from its end, and what a loop from the end of a list has gone through.
 use Rattle.std.proofs.Common.{◌≡◌, List, [], ◌∷◌, ◌++◌, map, reverse, refl, ap, sym, ◌∙◌, Bor}
 use Rattle.std.proofs.lemmas.List.{reverse-append, reverse-reverse, map-append}
-use Rattle.bqn_syntax.specs.Plain.{BodyTree, body}
-use Rattle.bqn_syntax.specs.Mentions.{and_mentions, Scopes, and_scopes, body_scope}
+use Rattle.bqn_syntax.specs.grammar.Trees.{BodyTree, body}
+use Rattle.bqn_syntax.specs.scope.Mentions.{and_mentions, Scopes, and_scopes, body_scope}
 use Rattle.bqn_scope.specs.declared.mention.Event.{Event}
 use Rattle.bqn_scope.specs.declared.mention.Mention.{Mention}
 use Rattle.bqn_scope.specs.declared.mention.Own.{Own}

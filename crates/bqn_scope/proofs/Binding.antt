@@ -7,7 +7,7 @@ use Rattle.std.specs.Cmp.Lexicographic.{pointwise, bytes_decides, nat_list_eq_eq
 use Rattle.std.proofs.lemmas.List.{reverse-append, take_more, drop_all}
 use Rattle.indexmap.specs.IndexMap.{insert_entry}
 use Rattle.bqn_syntax.specs.declared.token.Token.{Token}
-use Rattle.bqn_syntax.specs.Scope.{same_name, name_of}
+use Rattle.bqn_syntax.specs.scope.Scope.{same_name, name_of}
 use Rattle.bqn_scope.specs.declared.bindings.Hidden.{Hidden}
 use Rattle.bqn_scope.specs.Bindings.{Binding, bound_in, bound_to, bound_by, hidden_by, hidden_shown, unbound}
 use Rattle.bqn_scope.specs.Tokens.{tokens_shown, names_of_tokens}

@@ -6,7 +6,7 @@ use Rattle.std.specs.Option.{option_map, option_to_list, MatchOption}
 use Rattle.std.proofs.lemmas.Bool.{lt-ltb}
 use Rattle.std.proofs.lemmas.Bool.Decides.{nat_tests}
 use Rattle.std.proofs.lemmas.List.{reverse-append, length-map, length-reverse}
-use Rattle.bqn_syntax.specs.Scope.{Scope, Seen, has, same_name, names_of, sees, or_outward, outward}
+use Rattle.bqn_syntax.specs.scope.Scope.{Scope, Seen, has, same_name, names_of, sees, or_outward, outward}
 use Rattle.bqn_scope.specs.Names.{place_of}
 use Rattle.bqn_scope.specs.declared.around.Around.{Around}
 use Rattle.bqn_scope.specs.declared.scope.Scope.{Scope as CodeScope}

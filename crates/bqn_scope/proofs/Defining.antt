@@ -3,8 +3,8 @@ use Rattle.std.proofs.Common.{◌≡◌, ℕ, suc, Bool, true, false, not, if◌
 use Rattle.std.specs.Prelude.{◌&&◌, ◌||◌}
 use Rattle.std.proofs.lemmas.List.{append_assoc, append-nil, drop_all}
 use Rattle.bqn_syntax.specs.declared.token.Token.{Token}
-use Rattle.bqn_syntax.specs.Mentions.{Mention, Named, Special, System, Inner, Mentions, and_mentions}
-use Rattle.bqn_syntax.specs.Scope.{name_of, has, same_name, defines, definitions}
+use Rattle.bqn_syntax.specs.scope.Mentions.{Mention, Named, Special, System, Inner, Mentions, and_mentions}
+use Rattle.bqn_syntax.specs.scope.Scope.{name_of, has, same_name, defines, definitions}
 use Rattle.bqn_scope.specs.declared.mention.Mention.{Mention as CodeMention}
 use Rattle.bqn_scope.specs.Shown.{mention_of, mentions_shown}
 use Rattle.bqn_scope.specs.Tokens.{names_of_tokens}

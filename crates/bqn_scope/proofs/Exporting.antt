@@ -2,9 +2,9 @@
 use Rattle.std.proofs.Common.{◌≡◌, ℕ, suc, Bool, true, false, not, if◌then◌else◌, List, [], ◌∷◌, ◌++◌, length, get_or, drop, drop-cons, add-one, ◌<◌, ◌+◌, refl, sym, ap, ◌∙◌}
 use Rattle.std.specs.Prelude.{◌&&◌}
 use Rattle.std.proofs.lemmas.List.{map-append, length-map}
-use Rattle.bqn_syntax.specs.Mentions.{Mention, Named, Special, System, Inner, Mentions, and_mentions}
-use Rattle.bqn_syntax.specs.Scope.{name_of, has, place_of}
-use Rattle.bqn_syntax.specs.Bodies.{exports_it, at_slot, exports_of}
+use Rattle.bqn_syntax.specs.scope.Mentions.{Mention, Named, Special, System, Inner, Mentions, and_mentions}
+use Rattle.bqn_syntax.specs.scope.Scope.{name_of, has, place_of}
+use Rattle.bqn_syntax.specs.scope.Bodies.{exports_it, at_slot, exports_of}
 use Rattle.bqn_scope.specs.declared.body_names.BodyNames.{BodyNames}
 use Rattle.bqn_scope.specs.declared.mention.Mention.{Mention as CodeMention}
 use Rattle.bqn_scope.specs.Shown.{mention_of, mentions_shown}

@@ -2,11 +2,11 @@
 use Rattle.std.proofs.Common.{◌≡◌, List, [], ◌∷◌, length, None, Result, Ok, ℕ, sym, ap, ◌∙◌, Vec}
 use Rattle.bqn_base.specs.declared.refusal.Refusal.{Refusal}
 use Rattle.bqn_syntax.specs.declared.token.Token.{Token}
-use Rattle.bqn_syntax.specs.Plain.{Stmts}
-use Rattle.bqn_syntax.specs.Order.{How, order_of}
-use Rattle.bqn_syntax.specs.Mentions.{Mentions, no_mentions, stmts_mentions}
-use Rattle.bqn_syntax.specs.Scope.{top_scope, uses_of}
-use Rattle.bqn_syntax.specs.Bodies.{Resolution, BodyNames, body_names, inside, with_bodies, resolution}
+use Rattle.bqn_syntax.specs.grammar.Trees.{Stmts}
+use Rattle.bqn_syntax.specs.scope.Order.{How, order_of}
+use Rattle.bqn_syntax.specs.scope.Mentions.{Mentions, no_mentions, stmts_mentions}
+use Rattle.bqn_syntax.specs.scope.Scope.{top_scope, uses_of}
+use Rattle.bqn_syntax.specs.scope.Bodies.{Resolution, BodyNames, body_names, inside, with_bodies, resolution}
 use Rattle.bqn_scope.specs.declared.body_names.BodyNames.{BodyNames as CodeBodyNames}
 use Rattle.bqn_scope.specs.declared.used.Use.{Use as CodeUse}
 use Rattle.bqn_scope.specs.Numbering.{bodies_shown}

@@ -7,7 +7,7 @@ use Rattle.std.proofs.lemmas.List.{length-map, length-append}
 use Rattle.std.proofs.lemmas.Bool.{lt-ltb}
 use Rattle.std.proofs.lemmas.Bool.Decides.{nat_tests}
 use Rattle.bqn_syntax.specs.declared.token.Token.{Token}
-use Rattle.bqn_syntax.specs.Scope.{name_of, same_name, same_place, is_again}
+use Rattle.bqn_syntax.specs.scope.Scope.{name_of, same_name, same_place, is_again}
 use Rattle.bqn_scope.specs.Names.{place_of}
 use Rattle.bqn_scope.specs.Scopes.{known_in}
 use Rattle.bqn_scope.specs.Tokens.{tokens_shown, names_of_tokens}

@@ -6,7 +6,7 @@ use Rattle.std.specs.Cmp.Lexicographic.{pointwise, nat_list_eq_equiv}
 use Rattle.std.proofs.lemmas.List.{length-map}
 use Rattle.std.proofs.lemmas.Bool.{le-ltb, lt-ltb}
 use Rattle.std.proofs.lemmas.Bool.Decides.{nat_tests}
-use Rattle.bqn_syntax.specs.Scope.{has}
+use Rattle.bqn_syntax.specs.scope.Scope.{has}
 use Rattle.bqn_scope.specs.Names.{AreDistinct, spelled, place_of, with_place, added_unless_held, added}
 
 one-more : (b a : Bool) (m n : ℕ) → a ≡ nat_lt m n → (b || a) ≡ nat_lt (cond (not b) (1 + m) 0) (suc n)

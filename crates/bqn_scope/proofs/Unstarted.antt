@@ -7,9 +7,9 @@ use Rattle.bqn_syntax.specs.declared.tree.Derived.{Derived}
 use Rattle.bqn_syntax.specs.declared.tree.Part.{Part}
 use Rattle.bqn_syntax.specs.declared.tree.Step.{Step as CodeStep}
 use Rattle.bqn_syntax.specs.declared.tree.Step.TheVariants as step
-use Rattle.bqn_syntax.specs.Levels.{step-Apply, step-Assign, step-Modify}
-use Rattle.bqn_syntax.specs.Plain.{Steps, and_steps, Step, Modify, Value, none, steps, step_of, derived_of}
-use Rattle.bqn_syntax.specs.Order.{How, Changes, expr_order, steps_order, derived_order, leaf_order}
+use Rattle.bqn_syntax.specs.grammar.TreeEquations.{step-Apply, step-Assign, step-Modify}
+use Rattle.bqn_syntax.specs.grammar.Trees.{Steps, and_steps, Step, Modify, Value, none, steps, step_of, derived_of}
+use Rattle.bqn_syntax.specs.scope.Order.{How, Changes, expr_order, steps_order, derived_order, leaf_order}
 use Rattle.bqn_scope.specs.Unstarted.{unstarted_order}
 
 pub unstarted-is : (all : Steps) (k : List (How × Token)) → expr_order (Value none all) k ≡ unstarted_order all k

@@ -5,8 +5,8 @@ use Rattle.std.proofs.lemmas.List.{map-append}
 use Rattle.bqn_base.specs.declared.refusal.Refusal.{Refusal}
 use Rattle.bqn_base.specs.declared.refusal.Refusal.TheVariants as refusal
 use Rattle.bqn_syntax.specs.declared.token.Token.{Token}
-use Rattle.bqn_syntax.specs.Order.{How, Reads, Defines, Exports, Changes, Shows}
-use Rattle.bqn_syntax.specs.Scope.{Scope, Use, name_of, same_place, is_again, sees, read, define, unless, named, stands_in_block}
+use Rattle.bqn_syntax.specs.scope.Order.{How, Reads, Defines, Exports, Changes, Shows}
+use Rattle.bqn_syntax.specs.scope.Scope.{Scope, Use, name_of, same_place, is_again, sees, read, define, unless, named, stands_in_block}
 use Rattle.bqn_scope.specs.declared.error.ScopeError.{ScopeError}
 use Rattle.bqn_scope.specs.declared.error.ScopeError.TheVariants.{Refused, Memory}
 use Rattle.bqn_scope.specs.declared.scope.Scope.{Scope as CodeScope}

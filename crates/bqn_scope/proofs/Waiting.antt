@@ -8,8 +8,8 @@ use Rattle.std.proofs.lemmas.Cmp.{nat_list_eq_equiv, nat_eq_equiv}
 use Rattle.std.proofs.lemmas.List.{append_assoc, append-nil, drop_all, set_past, get_or_past, length-map, length-replicate}
 use Rattle.std.proofs.lemmas.Bool.Decides.{nat_tests}
 use Rattle.bqn_syntax.specs.declared.token.Token.{Token}
-use Rattle.bqn_syntax.specs.Order.{How}
-use Rattle.bqn_syntax.specs.Scope.{name_of, has, same_place, defines, without, too_early}
+use Rattle.bqn_syntax.specs.scope.Order.{How}
+use Rattle.bqn_syntax.specs.scope.Scope.{name_of, has, same_place, defines, without, too_early}
 use Rattle.bqn_scope.specs.declared.mention.Event.{Event}
 use Rattle.bqn_scope.specs.Shown.{event_shown, events_shown}
 use Rattle.bqn_scope.specs.Tokens.{tokens_shown, names_of_tokens, spot, spots_of, same_spot}

@@ -1,6 +1,6 @@
 -- The bodies around, and their bindings.
 use Rattle.std.specs.Prelude.{◌≡◌, ℕ, Bool, false, List, [], ◌∷◌}
-use Rattle.bqn_syntax.specs.Scope.{Scope, has, names_of}
+use Rattle.bqn_syntax.specs.scope.Scope.{Scope, has, names_of}
 use Rattle.bqn_scope.specs.declared.around.Around.{Around}
 use Rattle.bqn_scope.specs.Bindings.{bindings_shown, innermost}
 use Rattle.bqn_scope.specs.Scopes.{scopes_around}

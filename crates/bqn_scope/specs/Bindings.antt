@@ -2,7 +2,7 @@
 use Rattle.std.specs.Prelude.{ℕ, ◌+◌, ◌-◌, if◌then◌else◌, List, [], ◌∷◌, length, map, reverse, Option, Some, None}
 use Rattle.std.specs.Option.{option_map}
 use denote.Ref.{Bor}
-use Rattle.bqn_syntax.specs.Scope.{Scope, Seen, names_of, same_name}
+use Rattle.bqn_syntax.specs.scope.Scope.{Scope, Seen, names_of, same_name}
 use Rattle.bqn_scope.specs.declared.bindings.Bindings.{Bindings}
 use Rattle.bqn_scope.specs.declared.bindings.Hidden.{Hidden}
 

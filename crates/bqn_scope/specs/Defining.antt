@@ -1,8 +1,8 @@
 -- The definitions of a body, one mention after another.
 use Rattle.std.specs.Prelude.{not, ◌&&◌, ◌||◌, if◌then◌else◌, List, [], ◌∷◌, ◌++◌, ℕ}
 use Rattle.bqn_syntax.specs.declared.token.Token.{Token}
-use Rattle.bqn_syntax.specs.Mentions.{Mention, Named}
-use Rattle.bqn_syntax.specs.Scope.{name_of, has, defines}
+use Rattle.bqn_syntax.specs.scope.Mentions.{Mention, Named}
+use Rattle.bqn_syntax.specs.scope.Scope.{name_of, has, defines}
 use Rattle.bqn_scope.specs.Tokens.{names_of_tokens}
 
 -- the definitions once one more mention has been seen

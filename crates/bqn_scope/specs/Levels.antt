@@ -2,7 +2,7 @@
 use Rattle.std.proofs.Common.{◌≡◌, List, rules}
 use denote.Ref.{Bor}
 use Rattle.bqn_syntax.specs.declared.token.Token.{Token}
-use Rattle.bqn_syntax.specs.Mentions as plain
+use Rattle.bqn_syntax.specs.scope.Mentions as plain
 use Rattle.bqn_scope.specs.declared.mention.How.{How}
 use Rattle.bqn_scope.specs.declared.mention.Mention.{the_lemmas}
 use Rattle.bqn_scope.specs.declared.mention.Mention.TheVariants as mention

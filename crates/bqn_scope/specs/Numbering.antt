@@ -1,9 +1,9 @@
 -- The names of bodies, and what is written of them.
 use Rattle.std.specs.Prelude.{ℕ, not, ◌&&◌, if◌then◌else◌, List, [], map}
-use Rattle.bqn_syntax.specs.Mentions.{Mention, Named, Mentions}
-use Rattle.bqn_syntax.specs.Scope.{name_of, has, place_of}
-use Rattle.bqn_syntax.specs.Bodies as bodies
-use Rattle.bqn_syntax.specs.Bodies.{exports_it, at_slot, exports_of}
+use Rattle.bqn_syntax.specs.scope.Mentions.{Mention, Named, Mentions}
+use Rattle.bqn_syntax.specs.scope.Scope.{name_of, has, place_of}
+use Rattle.bqn_syntax.specs.scope.Bodies as bodies
+use Rattle.bqn_syntax.specs.scope.Bodies.{exports_it, at_slot, exports_of}
 use Rattle.bqn_scope.specs.declared.body_names.BodyNames.{BodyNames}
 
 abbrev pub exported_names : List (List ℕ × ℕ) → List (List ℕ)

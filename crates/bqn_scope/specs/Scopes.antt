@@ -1,7 +1,7 @@
 -- What the scopes of enclosing bodies stand for, and the uses that are written.
 use Rattle.std.specs.Prelude.{◌≡◌, ℕ, Bool, true, false, List, [], ◌∷◌, map, reverse, Result, Ok, Err}
 use Rattle.bqn_base.specs.declared.refusal.Refusal.{Refusal}
-use Rattle.bqn_syntax.specs.Scope.{Scope, Seen, Use, uses_of, block_scope}
+use Rattle.bqn_syntax.specs.scope.Scope.{Scope, Seen, Use, uses_of, block_scope}
 use Rattle.bqn_scope.specs.declared.error.ScopeError.{ScopeError}
 use Rattle.bqn_scope.specs.declared.error.ScopeError.TheVariants.{Refused, Memory}
 use Rattle.bqn_scope.specs.declared.scope.Scope.{Scope as CodeScope}

@@ -1,10 +1,10 @@
 -- What mentions and events stand for.
 use Rattle.std.specs.Prelude.{List, [], ◌∷◌, map, reverse}
 use Rattle.bqn_syntax.specs.declared.token.Token.{Token}
-use Rattle.bqn_syntax.specs.Plain as plain_tree
-use Rattle.bqn_syntax.specs.Order as order
-use Rattle.bqn_syntax.specs.Mentions as plain
-use Rattle.bqn_syntax.specs.Mentions.{Mentions, no_mentions, and_mentions, Scopes, no_scopes, and_scopes, header_mentions, stmts_mentions}
+use Rattle.bqn_syntax.specs.grammar.Trees as plain_tree
+use Rattle.bqn_syntax.specs.scope.Order as order
+use Rattle.bqn_syntax.specs.scope.Mentions as plain
+use Rattle.bqn_syntax.specs.scope.Mentions.{Mentions, no_mentions, and_mentions, Scopes, no_scopes, and_scopes, header_mentions, stmts_mentions}
 use Rattle.bqn_scope.specs.declared.mention.How.{How}
 use Rattle.bqn_scope.specs.declared.mention.How.TheVariants as how
 use Rattle.bqn_scope.specs.declared.mention.Event.{Event}

@@ -2,7 +2,7 @@
 use Rattle.std.specs.Prelude.{ℕ, Bool, nat_eq, ◌&&◌, List, [], map, Option, Some, None}
 use denote.Ref.{Bor}
 use Rattle.bqn_syntax.specs.declared.token.Token.{Token}
-use Rattle.bqn_syntax.specs.Scope.{name_of}
+use Rattle.bqn_syntax.specs.scope.Scope.{name_of}
 
 abbrev pub tokens_shown : List (Bor Token) → List Token
 tokens_shown tokens = map (λ t. t.now) tokens

@@ -1,8 +1,8 @@
 -- The reads and stores of a value without a last part.
 use Rattle.std.specs.Prelude.{List}
 use Rattle.bqn_syntax.specs.declared.token.Token.{Token}
-use Rattle.bqn_syntax.specs.Plain.{Steps, Value, none}
-use Rattle.bqn_syntax.specs.Order.{How, expr_order}
+use Rattle.bqn_syntax.specs.grammar.Trees.{Steps, Value, none}
+use Rattle.bqn_syntax.specs.scope.Order.{How, expr_order}
 
 -- those of its steps, in front of others
 unfoldable pub unstarted_order : Steps → List (How × Token) → List (How × Token)

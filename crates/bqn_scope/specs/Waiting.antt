@@ -1,8 +1,8 @@
 -- The definitions of a body that are still to come, one event after another.
 use Rattle.std.specs.Prelude.{Bool, if◌then◌else◌, List, [], ◌∷◌, ◌++◌}
 use Rattle.bqn_syntax.specs.declared.token.Token.{Token}
-use Rattle.bqn_syntax.specs.Order.{How}
-use Rattle.bqn_syntax.specs.Scope.{name_of, has, defines, without}
+use Rattle.bqn_syntax.specs.scope.Order.{How}
+use Rattle.bqn_syntax.specs.scope.Scope.{name_of, has, defines, without}
 use Rattle.bqn_scope.specs.Tokens.{names_of_tokens}
 
 -- the tokens that are marked

@@ -1,6 +1,6 @@
 ghost use Rattle.std.specs.Prelude.{◌≡◌, [], ◌∷◌, IfOk, OnOk, drop};
 ghost use Rattle.std.specs.Option.{option_map};
-ghost use Rattle.bqn_syntax.specs.Scope.{block_scope, sees, top_scope};
+ghost use Rattle.bqn_syntax.specs.scope.Scope.{block_scope, sees, top_scope};
 ghost use Rattle.bqn_scope.specs.Around.{IsBound, bodies_around, has_last};
 ghost use Rattle.bqn_scope.specs.Bindings.{bindings_shown, hidden_shown, innermost, unbound};
 ghost use Rattle.bqn_scope.specs.Scopes.{seen_of};

@@ -1,6 +1,6 @@
 ghost use Rattle.std.specs.Prelude.{◌≡◌, [], ◌++◌, IfOk, OnOk};
-ghost use Rattle.bqn_syntax.specs.Bodies.{exports_it, exports_of};
-ghost use Rattle.bqn_syntax.specs.Scope.{definitions};
+ghost use Rattle.bqn_syntax.specs.scope.Bodies.{exports_it, exports_of};
+ghost use Rattle.bqn_syntax.specs.scope.Scope.{definitions};
 ghost use Rattle.bqn_scope.specs.Numbering.{body_shown, body_with, exported_names, exporting};
 ghost use Rattle.bqn_scope.specs.Scopes.{known_in};
 ghost use Rattle.bqn_scope.specs.Shown.{how_shown, mention_of, mentions_shown};

@@ -1,7 +1,7 @@
 ghost use Rattle.std.specs.Prelude.{◌≡◌, ◌∷◌, ◌++◌, IfOk, OnOk, IsTrue};
 ghost use Rattle.std.specs.List.{list_all};
 ghost use Rattle.bqn_base.specs.Names.{is_name_character};
-ghost use Rattle.bqn_syntax.specs.Scope.{defines, definitions, has, is_again, name_of};
+ghost use Rattle.bqn_syntax.specs.scope.Scope.{defines, definitions, has, is_again, name_of};
 ghost use Rattle.bqn_scope.specs.Defining.{defining};
 ghost use Rattle.bqn_scope.specs.Shown.{how_shown, mention_of, mentions_shown};
 ghost use Rattle.bqn_scope.specs.Tokens.{known_names, names_of_tokens, tokens_shown};

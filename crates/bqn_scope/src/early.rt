@@ -1,5 +1,5 @@
 ghost use Rattle.std.specs.Prelude.{◌≡◌, IfOk, OnOk, length};
-ghost use Rattle.bqn_syntax.specs.Scope.{has, too_early, without};
+ghost use Rattle.bqn_syntax.specs.scope.Scope.{has, too_early, without};
 ghost use Rattle.bqn_scope.specs.Shown.{event_shown, events_shown};
 ghost use Rattle.bqn_scope.specs.Tokens.{names_of_tokens, tokens_shown};
 ghost use Rattle.bqn_scope.specs.Waiting.{early_with, kept, to_come};

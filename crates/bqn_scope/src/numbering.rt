@@ -1,5 +1,5 @@
 ghost use Rattle.std.specs.Prelude.{◌≡◌, ◌++◌, OnOk, length};
-ghost use Rattle.bqn_syntax.specs.Bodies.{inside, inside_block, inside_mention, of_block};
+ghost use Rattle.bqn_syntax.specs.scope.Bodies.{inside, inside_block, inside_mention, of_block};
 ghost use Rattle.bqn_scope.specs.Numbering.{bodies_shown};
 ghost use Rattle.bqn_scope.specs.Shown.{mention_of, mentions_shown, scopes_shown};
 

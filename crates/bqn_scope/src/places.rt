@@ -1,7 +1,7 @@
 ghost use Rattle.std.specs.Prelude.{◌≡◌, ◌<◌, IfOk, IfSome, length, position};
 ghost use Rattle.std.specs.List.{IsDistinct, list_any};
 ghost use Rattle.std.proofs.Props.{props};
-ghost use Rattle.bqn_syntax.specs.Scope.{same_place};
+ghost use Rattle.bqn_syntax.specs.scope.Scope.{same_place};
 ghost use Rattle.bqn_scope.specs.Tokens.{tokens_shown, spot, spots_of, same_spot};
 
 use crate::error::NoMemory;

@@ -1,8 +1,8 @@
 ghost use Rattle.std.specs.Prelude.{◌≡◌, [], ◌∷◌, None, IfOk, length, map};
-ghost use Rattle.bqn_syntax.specs.Bodies.{inside, resolution};
-ghost use Rattle.bqn_syntax.specs.Bodies as text;
-ghost use Rattle.bqn_syntax.specs.Plain.{stmt_of, stmts, tree_of};
-ghost use Rattle.bqn_syntax.specs.Scope.{top_scope, uses_of};
+ghost use Rattle.bqn_syntax.specs.scope.Bodies.{inside, resolution};
+ghost use Rattle.bqn_syntax.specs.scope.Bodies as text;
+ghost use Rattle.bqn_syntax.specs.grammar.Trees.{stmt_of, stmts, tree_of};
+ghost use Rattle.bqn_syntax.specs.scope.Scope.{top_scope, uses_of};
 ghost use Rattle.bqn_scope.specs.Numbering.{bodies_shown};
 ghost use Rattle.bqn_scope.specs.Resolving.{GivesParts, GivesUses, Resolves};
 ghost use Rattle.bqn_scope.specs.Shown.{events_shown, mentions_shown};

@@ -1,5 +1,5 @@
 ghost use Rattle.std.specs.Prelude.{◌≡◌, ◌++◌, IfOk};
-ghost use Rattle.bqn_syntax.specs.Scope.{definitions, has, is_again, place_of, same_place, scope};
+ghost use Rattle.bqn_syntax.specs.scope.Scope.{definitions, has, is_again, place_of, same_place, scope};
 ghost use Rattle.bqn_scope.specs.Scopes.{known_in, scope_shown};
 ghost use Rattle.bqn_scope.specs.Shown.{events_shown, mentions_shown};
 ghost use Rattle.bqn_scope.specs.Tokens.{names_of_tokens, tokens_shown};

@@ -2,7 +2,7 @@ ghost use Rattle.std.specs.Prelude.{◌≡◌, ◌<◌, [], ◌∷◌, ◌++◌,
 ghost use Rattle.std.specs.List.{IsDistinct, list_all};
 ghost use Rattle.std.specs.Cmp.Lexicographic.{pointwise};
 ghost use Rattle.bqn_base.specs.Names.{is_name_character};
-ghost use Rattle.bqn_syntax.specs.Scope.{has};
+ghost use Rattle.bqn_syntax.specs.scope.Scope.{has};
 ghost use Rattle.bqn_scope.specs.Names.{place_of};
 
 use bqn_base::{Memory, Name};

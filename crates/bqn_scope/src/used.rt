@@ -1,7 +1,7 @@
 ghost use Rattle.std.specs.Prelude.{◌≡◌, [], ◌∷◌, ◌++◌, Ok};
 ghost use Rattle.std.specs.List.{list_any};
 ghost use Rattle.bqn_base.specs.declared.refusal.Refusal.TheVariants as refusal;
-ghost use Rattle.bqn_syntax.specs.Scope as text;
+ghost use Rattle.bqn_syntax.specs.scope.Scope as text;
 ghost use Rattle.bqn_scope.specs.Around.{IsBound, bodies_around, has_last};
 ghost use Rattle.bqn_scope.specs.Scopes.{Passes, Writes, seen_of, uses_shown};
 ghost use Rattle.bqn_scope.specs.Shown.{how_shown};

@@ -1,5 +1,5 @@
 ghost use Rattle.std.specs.Prelude.{◌≡◌, OnOk};
-ghost use Rattle.bqn_syntax.specs.Scope.{uses_at, uses_inside, uses_of};
+ghost use Rattle.bqn_syntax.specs.scope.Scope.{uses_at, uses_inside, uses_of};
 ghost use Rattle.bqn_scope.specs.Around.{IsBound, bodies_around};
 ghost use Rattle.bqn_scope.specs.Scopes.{Writes, uses_of_own, uses_shown};
 ghost use Rattle.bqn_scope.specs.Shown.{mention_of, mentions_shown, own_of, scopes_shown};

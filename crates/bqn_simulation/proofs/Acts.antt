@@ -1,18 +1,18 @@
 -- Code that does what an action does, for whatever comes after it.
 use Rattle.std.proofs.Common.{◌≡◌, Result, Ok, Err, List, [], ◌∷◌, ◌++◌, Option, Some, refl, sym, ap, ◌∙◌, subst, append_assoc}
 use Rattle.bqn_base.specs.declared.place.Place.{Place}
-use Rattle.bqn_base.specs.Raised.{Raised, placed}
-use Rattle.bqn_base.specs.Running.{Res, Gives, Ends, then_do}
-use Rattle.bqn_base.specs.Plain.{Value}
-use Rattle.bqn_syntax.specs.Actions.{at as at_place, go_on, ◌>>=◌, pure}
-use Rattle.bqn_syntax.specs.Frames.{given}
-use Rattle.bqn_syntax.specs.Environments as s
+use Rattle.bqn_rows.specs.Raised.{Raised, placed}
+use Rattle.bqn_rows.specs.Running.{Res, Gives, Ends, then_do}
+use Rattle.bqn_rows.specs.Plain.{Value}
+use Rattle.bqn_meaning.specs.Actions.{at as at_place, go_on, ◌>>=◌, pure}
+use Rattle.bqn_meaning.specs.Frames.{given}
+use Rattle.bqn_meaning.specs.Environments as s
 use Rattle.bqn_code.specs.declared.instr.Instr.{Instr}
-use Rattle.bqn_code.specs.States as c
+use Rattle.bqn_execution.specs.States as c
 use Rattle.bqn_code.specs.Numbering.{Table}
-use Rattle.bqn_code.specs.Variables.{Frame}
-use Rattle.bqn_code.specs.Operands.{Go, Stack, pushed, value}
-use Rattle.bqn_code.specs.Execution.{act, exec}
+use Rattle.bqn_execution.specs.Variables.{Frame}
+use Rattle.bqn_execution.specs.Operands.{Go, Stack, pushed, value}
+use Rattle.bqn_execution.specs.Execution.{act, exec}
 use Rattle.bqn_simulation.specs.Views.{Same}
 use Rattle.bqn_simulation.proofs.Agree.{into, into_bind, into_same, through, gives, ats, bind_assoc, Only, into_where}
 

@@ -2,14 +2,14 @@
 use Rattle.std.proofs.Common.{◌≡◌, Bool, true, false, Option, Some, None, Result, Ok, Err, refl, ap, ◌∙◌}
 use Rattle.bqn_base.specs.declared.fault.Fault.{Fault}
 use Rattle.bqn_base.specs.declared.place.Place.{Place}
-use Rattle.bqn_base.specs.Raised.{Raised, placed}
-use Rattle.bqn_base.specs.Plain.{Value}
-use Rattle.bqn_base.specs.Running.{Res, Gives, Ends, then_do}
-use Rattle.bqn_syntax.specs.Actions.{at as at_place, go_on, ◌>>=◌, pure, fault, known, found, used, where_so}
-use Rattle.bqn_syntax.specs.Environments as s
-use Rattle.bqn_syntax.specs.Frames.{given}
-use Rattle.bqn_code.specs.States as c
-use Rattle.bqn_code.specs.States.{Halted, Spends}
+use Rattle.bqn_rows.specs.Raised.{Raised, placed}
+use Rattle.bqn_rows.specs.Plain.{Value}
+use Rattle.bqn_rows.specs.Running.{Res, Gives, Ends, then_do}
+use Rattle.bqn_meaning.specs.Actions.{at as at_place, go_on, ◌>>=◌, pure, fault, known, found, used, where_so}
+use Rattle.bqn_meaning.specs.Environments as s
+use Rattle.bqn_meaning.specs.Frames.{given}
+use Rattle.bqn_execution.specs.States as c
+use Rattle.bqn_execution.specs.States.{Halted, Spends}
 use Rattle.bqn_simulation.specs.Views.{onto, Same}
 
 -- what follows an answer; a fault and the end of the steps pass on

@@ -2,35 +2,35 @@
 use Rattle.std.proofs.Common.{◌≡◌, ℕ, ◌+◌, Bool, true, false, if◌then◌else◌, List, [], ◌∷◌, ◌++◌, Option, Some, None, Result, Ok, Err, refl, sym, ap, ◌∙◌, subst, append_assoc, arith}
 use Rattle.bqn_base.specs.declared.fault.Fault.{Fault}
 use Rattle.bqn_base.specs.declared.place.Place.{Place}
-use Rattle.bqn_base.specs.Raised.{Raised, placed}
-use Rattle.bqn_syntax.specs.Leads.{or_else, pattern_lead, stmt_lead, header_lead, at_start}
+use Rattle.bqn_rows.specs.Raised.{Raised, placed}
+use Rattle.bqn_syntax.specs.blocks.Leads.{or_else, pattern_lead, stmt_lead, header_lead, at_start}
 use Rattle.bqn_base.specs.declared.role.Role.TheVariants as role
-use Rattle.bqn_base.specs.Plain as plain
-use Rattle.bqn_base.specs.Plain.{Namespace}
-use Rattle.bqn_base.specs.Running.{Res, Gives, Ends, then_do}
+use Rattle.bqn_rows.specs.Plain as plain
+use Rattle.bqn_rows.specs.Plain.{Namespace}
+use Rattle.bqn_rows.specs.Running.{Res, Gives, Ends, then_do}
 use Rattle.bqn_syntax.specs.declared.token.Kind.{Kind}
 use Rattle.bqn_syntax.specs.declared.token.Kind.TheVariants as kind
 use Rattle.bqn_syntax.specs.declared.token.Special.{Special}
 use Rattle.bqn_syntax.specs.declared.token.Special.TheVariants as special
 use Rattle.bqn_syntax.specs.declared.token.Token.{Token}
 use Rattle.bqn_syntax.specs.declared.tree.Arrow.TheVariants as arrow
-use Rattle.bqn_syntax.specs.Plain.{Pattern, Name, Skip, Literal, ListPattern, StrandPattern, Header, Stmt, Eval, Predicate, Export, Stmts, no_stmts, and_stmts}
-use Rattle.bqn_syntax.specs.Order.{Defines}
-use Rattle.bqn_syntax.specs.Scope as scope
-use Rattle.bqn_syntax.specs.Counting.{in_expr}
-use Rattle.bqn_syntax.specs.Actions.{at as at_place, go_on, ◌>>=◌, pure, known, used, where_so}
-use Rattle.bqn_syntax.specs.Environments as s
-use Rattle.bqn_syntax.specs.Frames.{Setting, Frame, special_value, left_of, right_of}
-use Rattle.bqn_syntax.specs.Matching.{Fits, fit, does_fit, store, store_named, argument, name_special, name_operand, own_special, header_fits}
-use Rattle.bqn_syntax.specs.Meaning.{Ending, NextBody, EndsWith, truth, tested, eval_expr, eval_stmts}
+use Rattle.bqn_syntax.specs.grammar.Trees.{Pattern, Name, Skip, Literal, ListPattern, StrandPattern, Header, Stmt, Eval, Predicate, Export, Stmts, no_stmts, and_stmts}
+use Rattle.bqn_syntax.specs.scope.Order.{Defines}
+use Rattle.bqn_syntax.specs.scope.Scope as scope
+use Rattle.bqn_syntax.specs.blocks.Counting.{in_expr}
+use Rattle.bqn_meaning.specs.Actions.{at as at_place, go_on, ◌>>=◌, pure, known, used, where_so}
+use Rattle.bqn_meaning.specs.Environments as s
+use Rattle.bqn_meaning.specs.Frames.{Setting, Frame, special_value, left_of, right_of}
+use Rattle.bqn_meaning.specs.Matching.{Fits, fit, does_fit, store, store_named, argument, name_special, name_operand, own_special, header_fits}
+use Rattle.bqn_meaning.specs.Meaning.{Ending, NextBody, EndsWith, truth, tested, eval_expr, eval_stmts}
 use Rattle.bqn_code.specs.declared.instr.Instr.{Instr}
 use Rattle.bqn_code.specs.declared.instr.Instr.TheVariants as i
-use Rattle.bqn_code.specs.States as c
+use Rattle.bqn_execution.specs.States as c
 use Rattle.bqn_code.specs.Plain as code
 use Rattle.bqn_code.specs.Numbering.{Placed, Table}
-use Rattle.bqn_code.specs.Operands.{Go, Stack, one}
-use Rattle.bqn_code.specs.Patterns as taking
-use Rattle.bqn_code.specs.Execution.{exec, with_pattern}
+use Rattle.bqn_execution.specs.Operands.{Go, Stack, one}
+use Rattle.bqn_execution.specs.Patterns as taking
+use Rattle.bqn_execution.specs.Execution.{exec, with_pattern}
 use Rattle.bqn_compile.specs.declared.count.Count.{Count}
 use Rattle.bqn_compile.specs.Counting as counting
 use Rattle.bqn_compile.specs.Counting.{past, in_argument, in_operand, in_token, in_header, in_stmt}

@@ -1,29 +1,29 @@
 -- Calls run alike over names and over slots, where the blocks of the code are those of the source.
 use Rattle.std.proofs.Common.{◌≡◌, ℕ, zero, suc, ◌+◌, Bool, true, false, List, [], ◌∷◌, ◌++◌, length, map, replicate, slice_get, Option, Some, None, Result, Ok, Err, refl, sym, ap, ◌∙◌, subst}
 use Rattle.std.proofs.lemmas.List.{length-map, map-append}
-use Rattle.bqn_base.specs.Raised.{Raised}
-use Rattle.bqn_syntax.specs.Leads.{at_start}
-use Rattle.bqn_base.specs.Plain as plain
-use Rattle.bqn_base.specs.Plain.{Values}
-use Rattle.bqn_base.specs.Calls.{Arguments, no_arguments, alone, two, Call, End, Enter, Turn, Write, Inside}
-use Rattle.bqn_base.specs.Running as running
-use Rattle.bqn_base.specs.Running.{Res, Gives, Ends, then_do, Replies}
+use Rattle.bqn_rows.specs.Raised.{Raised}
+use Rattle.bqn_syntax.specs.blocks.Leads.{at_start}
+use Rattle.bqn_rows.specs.Plain as plain
+use Rattle.bqn_rows.specs.Plain.{Values}
+use Rattle.bqn_rows.specs.Calls.{Arguments, no_arguments, alone, two, Call, End, Enter, Turn, Write, Inside}
+use Rattle.bqn_rows.specs.Running as running
+use Rattle.bqn_rows.specs.Running.{Res, Gives, Ends, then_do, Replies}
 use Rattle.bqn_syntax.specs.declared.tree.Class.{Class}
-use Rattle.bqn_syntax.specs.Classes.{Calls, Monadic, Dyadic, Both}
-use Rattle.bqn_syntax.specs.Actions.{at as at_place, go_on, ◌>>=◌, pure, used}
-use Rattle.bqn_syntax.specs.Blocks as source
-use Rattle.bqn_syntax.specs.Blocks.{scopes_of}
-use Rattle.bqn_syntax.specs.Environments as s
-use Rattle.bqn_syntax.specs.Frames.{Setting, Frame}
-use Rattle.bqn_syntax.specs.Meaning as m
-use Rattle.bqn_syntax.specs.Meaning.{Ending, NextBody, EndsWith, eval_stmts, eval_body, body_answer, or_next, is_for, frame_of, try_body, try_bodies, enter_block}
-use Rattle.bqn_syntax.specs.Scope as scope
+use Rattle.bqn_syntax.specs.grammar.Classes.{Calls, Monadic, Dyadic, Both}
+use Rattle.bqn_meaning.specs.Actions.{at as at_place, go_on, ◌>>=◌, pure, used}
+use Rattle.bqn_syntax.specs.blocks.Blocks as source
+use Rattle.bqn_syntax.specs.blocks.Blocks.{scopes_of}
+use Rattle.bqn_meaning.specs.Environments as s
+use Rattle.bqn_meaning.specs.Frames.{Setting, Frame}
+use Rattle.bqn_meaning.specs.Meaning as m
+use Rattle.bqn_meaning.specs.Meaning.{Ending, NextBody, EndsWith, eval_stmts, eval_body, body_answer, or_next, is_for, frame_of, try_body, try_bodies, enter_block}
+use Rattle.bqn_syntax.specs.scope.Scope as scope
 use Rattle.bqn_code.specs.declared.code.Body.{Body}
-use Rattle.bqn_code.specs.States as c
+use Rattle.bqn_execution.specs.States as c
 use Rattle.bqn_code.specs.Numbering as numbering
 use Rattle.bqn_code.specs.Numbering.{Placed, Table, BlockAt, body_number}
-use Rattle.bqn_code.specs.Execution as e
-use Rattle.bqn_code.specs.Execution.{exec, placed_code, is_meant, or_else}
+use Rattle.bqn_execution.specs.Execution as e
+use Rattle.bqn_execution.specs.Execution.{exec, placed_code, is_meant, or_else}
 use Rattle.bqn_compile.specs.declared.count.Count.{Count}
 use Rattle.bqn_compile.specs.Counting.{past, in_header}
 use Rattle.bqn_compile.specs.Expressions.{at_lead}

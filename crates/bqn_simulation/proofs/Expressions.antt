@@ -2,13 +2,13 @@
 use Rattle.std.proofs.Common.{◌≡◌, ℕ, zero, suc, ◌+◌, ◌<◌, Bool, true, false, nat_eq, List, [], ◌∷◌, ◌++◌, length, position, slice_get, Option, Some, None, Result, Ok, Err, refl, sym, ap, ◌∙◌, subst, append_assoc, append-nil, arith}
 use Rattle.bqn_base.specs.declared.fault.Fault.{Fault}
 use Rattle.bqn_base.specs.declared.place.Place.{Place}
-use Rattle.bqn_base.specs.Raised.{Raised, placed}
-use Rattle.bqn_syntax.specs.Leads.{or_else, pattern_lead, part_lead, derived_lead, deriveds_lead, exprs_lead, parts_lead, modifier_lead}
+use Rattle.bqn_rows.specs.Raised.{Raised, placed}
+use Rattle.bqn_syntax.specs.blocks.Leads.{or_else, pattern_lead, part_lead, derived_lead, deriveds_lead, exprs_lead, parts_lead, modifier_lead}
 use Rattle.bqn_base.specs.declared.fault.Fault.TheVariants.{NothingUsed, Undefined}
-use Rattle.bqn_base.specs.Plain as plain
-use Rattle.bqn_base.specs.Plain.{Given, Values, is_given}
-use Rattle.bqn_base.specs.Calls.{Call, call}
-use Rattle.bqn_base.specs.Running.{Res, Gives, Ends, then_do}
+use Rattle.bqn_rows.specs.Plain as plain
+use Rattle.bqn_rows.specs.Plain.{Given, Values, is_given}
+use Rattle.bqn_rows.specs.Calls.{Call, call}
+use Rattle.bqn_rows.specs.Running.{Res, Gives, Ends, then_do}
 use Rattle.bqn_syntax.specs.declared.token.Kind.{Kind}
 use Rattle.bqn_syntax.specs.declared.token.Kind.TheVariants as kind
 use Rattle.bqn_syntax.specs.declared.token.Special.{Special}
@@ -18,29 +18,29 @@ use Rattle.bqn_syntax.specs.declared.tree.Arrow.{Arrow}
 use Rattle.bqn_syntax.specs.declared.tree.Arrow.TheVariants as arrow
 use Rattle.bqn_syntax.specs.declared.tree.Class.{Class}
 use Rattle.bqn_syntax.specs.declared.tree.Class.TheVariants as class
-use Rattle.bqn_syntax.specs.Plain.{Pattern, Name, Skip, Literal, ListPattern, StrandPattern, Expr, Value, Train, Modifier, Use, One, Two, Part, Leaf, Elements, Merge, Paren, Block as Braces, Field, Strand, Nothing, Step, Apply, Assign, Modify, block, Derived, derived, none, some, Exprs, no_exprs, and_exprs, Uses, no_uses, and_uses, Parts, no_parts, and_parts, Steps, no_steps, and_steps, Deriveds, no_deriveds, and_deriveds}
-use Rattle.bqn_syntax.specs.Scope as scope
-use Rattle.bqn_syntax.specs.Scope.{name_of, same_name, system_names}
-use Rattle.bqn_syntax.specs.Counting.{in_expr, in_part, in_steps, in_derived, in_use}
-use Rattle.bqn_syntax.specs.Actions.{at as at_place, go_on, ◌>>=◌, pure, fault, known, found, used}
-use Rattle.bqn_syntax.specs.Blocks.{class_of}
-use Rattle.bqn_syntax.specs.Environments as s
-use Rattle.bqn_syntax.specs.Frames.{Setting, Frame, given, literal, special_value, system_at, leaf, left_operand, right_operand, modifier_of, there}
-use Rattle.bqn_syntax.specs.Matching.{Fits, must_fit, field, store, store_named, stays as stays_in, assigned, bind}
-use Rattle.bqn_syntax.specs.Deriving.{as_read, listed, elements, list_of, merged, standing, with_one, with_two, modified_one, modified_two, Reading, Unread, Read, Behind, atop, fork, as_part, and_part, train, applied}
-use Rattle.bqn_syntax.specs.Meaning.{fields, present, changed_to, eval_expr, eval_part, eval_steps, eval_step, eval_derived, eval_uses, eval_use, eval_deriveds, eval_exprs, eval_parts}
+use Rattle.bqn_syntax.specs.grammar.Trees.{Pattern, Name, Skip, Literal, ListPattern, StrandPattern, Expr, Value, Train, Modifier, Use, One, Two, Part, Leaf, Elements, Merge, Paren, Block as Braces, Field, Strand, Nothing, Step, Apply, Assign, Modify, block, Derived, derived, none, some, Exprs, no_exprs, and_exprs, Uses, no_uses, and_uses, Parts, no_parts, and_parts, Steps, no_steps, and_steps, Deriveds, no_deriveds, and_deriveds}
+use Rattle.bqn_syntax.specs.scope.Scope as scope
+use Rattle.bqn_syntax.specs.scope.Scope.{name_of, same_name, system_names}
+use Rattle.bqn_syntax.specs.blocks.Counting.{in_expr, in_part, in_steps, in_derived, in_use}
+use Rattle.bqn_meaning.specs.Actions.{at as at_place, go_on, ◌>>=◌, pure, fault, known, found, used}
+use Rattle.bqn_syntax.specs.blocks.Blocks.{class_of}
+use Rattle.bqn_meaning.specs.Environments as s
+use Rattle.bqn_meaning.specs.Frames.{Setting, Frame, given, literal, special_value, system_at, leaf, left_operand, right_operand, modifier_of, there}
+use Rattle.bqn_meaning.specs.Matching.{Fits, must_fit, field, store, store_named, stays as stays_in, assigned, bind}
+use Rattle.bqn_meaning.specs.Deriving.{as_read, listed, elements, list_of, merged, standing, with_one, with_two, modified_one, modified_two, Reading, Unread, Read, Behind, atop, fork, as_part, and_part, train, applied}
+use Rattle.bqn_meaning.specs.Meaning.{fields, present, changed_to, eval_expr, eval_part, eval_steps, eval_step, eval_derived, eval_uses, eval_use, eval_deriveds, eval_exprs, eval_parts}
 use Rattle.bqn_code.specs.declared.constant.Const.{Const}
 use Rattle.bqn_code.specs.declared.constant.Const.TheVariants as const
 use Rattle.bqn_code.specs.declared.code.Block.{Block}
 use Rattle.bqn_code.specs.declared.instr.Instr.{Instr}
 use Rattle.bqn_code.specs.declared.instr.Instr.TheVariants as i
-use Rattle.bqn_code.specs.States as c
+use Rattle.bqn_execution.specs.States as c
 use Rattle.bqn_code.specs.Numbering as numbering
 use Rattle.bqn_code.specs.Numbering.{Placed, Table, block_number}
-use Rattle.bqn_code.specs.Variables as v
-use Rattle.bqn_code.specs.Operands.{Go, Stack, one, pushed, value, constant, block_value, block_answer}
-use Rattle.bqn_code.specs.Execution.{stays, with_pattern}
-use Rattle.bqn_code.specs.Patterns.{bind as bind_code}
+use Rattle.bqn_execution.specs.Variables as v
+use Rattle.bqn_execution.specs.Operands.{Go, Stack, one, pushed, value, constant, block_value, block_answer}
+use Rattle.bqn_execution.specs.Execution.{stays, with_pattern}
+use Rattle.bqn_execution.specs.Patterns.{bind as bind_code}
 use Rattle.bqn_compile.specs.declared.count.Count.{Count}
 use Rattle.bqn_compile.specs.declared.read.Read.{Read as Shape}
 use Rattle.bqn_compile.specs.declared.read.Read.TheVariants as shape

@@ -1,23 +1,23 @@
 -- One more line: its code is known behind the codes before it, and it fits, but for its exports.
 use Rattle.std.proofs.Common.{◌≡◌, ℕ, zero, suc, ◌+◌, List, [], ◌∷◌, ◌++◌, length, map, slice_get, Option, Some, None, Ok, arith, refl, sym, subst, ap, ◌∙◌, append-nil}
 use Rattle.std.proofs.lemmas.Option.{none-some, slice_get_within}
-use Rattle.bqn_base.specs.Plain.{Value}
+use Rattle.bqn_rows.specs.Plain.{Value}
 use Rattle.bqn_syntax.specs.declared.token.Token.{Token}
-use Rattle.bqn_syntax.specs.Plain.{Stmts, body}
-use Rattle.bqn_syntax.specs.Classes.{Both}
-use Rattle.bqn_syntax.specs.Mentions.{Mentions, no_mentions, stmts_mentions}
-use Rattle.bqn_syntax.specs.Scope.{Scope, name_of, names_of, definitions}
-use Rattle.bqn_syntax.specs.Blocks as source
-use Rattle.bqn_syntax.specs.Blocks.{Earlier, all_bodies, further, behind as behind_lines, line_scope, line_body, scopes_of}
-use Rattle.bqn_syntax.specs.Bodies.{BodyNames, Resolution, body_names, inside}
-use Rattle.bqn_syntax.specs.Frames.{Setting}
-use Rattle.bqn_syntax.specs.Meaning.{names_before}
+use Rattle.bqn_syntax.specs.grammar.Trees.{Stmts, body}
+use Rattle.bqn_syntax.specs.grammar.Classes.{Both}
+use Rattle.bqn_syntax.specs.scope.Mentions.{Mentions, no_mentions, stmts_mentions}
+use Rattle.bqn_syntax.specs.scope.Scope.{Scope, name_of, names_of, definitions}
+use Rattle.bqn_syntax.specs.blocks.Blocks as source
+use Rattle.bqn_syntax.specs.blocks.Blocks.{Earlier, all_bodies, further, behind as behind_lines, line_scope, line_body, scopes_of}
+use Rattle.bqn_syntax.specs.scope.Bodies.{BodyNames, Resolution, body_names, inside}
+use Rattle.bqn_meaning.specs.Frames.{Setting}
+use Rattle.bqn_meaning.specs.Meaning.{names_before}
 use Rattle.bqn_code.specs.declared.code.Body.{Body}
 use Rattle.bqn_code.specs.declared.code.Block.{Block}
 use Rattle.bqn_code.specs.Plain.{Code}
 use Rattle.bqn_code.specs.Numbering as numbering
 use Rattle.bqn_code.specs.Numbering.{Placed, BlockAt, BodyAt, Table, placed_blocks, placed_body, placed_bodies, with_code}
-use Rattle.bqn_code.specs.Programs as p
+use Rattle.bqn_execution.specs.Programs as p
 use Rattle.bqn_compile.specs.Gathering.{Gathered, the_most, gathered}
 use Rattle.bqn_compile.specs.Bodies.{names_in, body_code, exports_code}
 use Rattle.bqn_compile.specs.Blocks.{stmts_blocks}

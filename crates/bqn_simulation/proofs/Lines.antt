@@ -2,24 +2,24 @@
 use Rattle.std.proofs.Common.{◌≡◌, ℕ, ◌+◌, ◌-◌, ◌||◌, Bool, true, false, List, [], ◌∷◌, ◌++◌, length, map, replicate, slice_get, Option, Some, None, Result, Ok, Err, refl, sym, ap, ◌∙◌, subst, arith}
 use Rattle.std.proofs.lemmas.Bool.{false≢true}
 use Rattle.std.proofs.lemmas.List.{length-map, map-append, length-append}
-use Rattle.bqn_base.specs.Raised.{Raised}
-use Rattle.bqn_base.specs.Plain.{Value}
+use Rattle.bqn_rows.specs.Raised.{Raised}
+use Rattle.bqn_rows.specs.Plain.{Value}
 use Rattle.bqn_base.specs.declared.fault.Fault.TheVariants.{NoBody}
-use Rattle.bqn_base.specs.Running as running
-use Rattle.bqn_base.specs.Running.{Res, Gives, Ends, then_do}
-use Rattle.bqn_syntax.specs.Plain.{Stmts}
-use Rattle.bqn_syntax.specs.Scope.{same_name, has}
-use Rattle.bqn_syntax.specs.Actions.{go_on, ◌>>=◌, pure, fault}
-use Rattle.bqn_syntax.specs.Blocks as source
-use Rattle.bqn_syntax.specs.Blocks.{Earlier, further, line_body, table_of}
-use Rattle.bqn_syntax.specs.Environments as s
-use Rattle.bqn_syntax.specs.Frames.{Setting}
-use Rattle.bqn_syntax.specs.Meaning as m
-use Rattle.bqn_syntax.specs.Meaning.{Ending, NextBody, EndsWith, eval_body, names_before, with_names, with_old_names, line_frame, line_answer, line}
-use Rattle.bqn_code.specs.States as c
+use Rattle.bqn_rows.specs.Running as running
+use Rattle.bqn_rows.specs.Running.{Res, Gives, Ends, then_do}
+use Rattle.bqn_syntax.specs.grammar.Trees.{Stmts}
+use Rattle.bqn_syntax.specs.scope.Scope.{same_name, has}
+use Rattle.bqn_meaning.specs.Actions.{go_on, ◌>>=◌, pure, fault}
+use Rattle.bqn_syntax.specs.blocks.Blocks as source
+use Rattle.bqn_syntax.specs.blocks.Blocks.{Earlier, further, line_body, table_of}
+use Rattle.bqn_meaning.specs.Environments as s
+use Rattle.bqn_meaning.specs.Frames.{Setting}
+use Rattle.bqn_meaning.specs.Meaning as m
+use Rattle.bqn_meaning.specs.Meaning.{Ending, NextBody, EndsWith, eval_body, names_before, with_names, with_old_names, line_frame, line_answer, line}
+use Rattle.bqn_execution.specs.States as c
 use Rattle.bqn_code.specs.Numbering.{Table, BodyAt}
-use Rattle.bqn_code.specs.Execution as e
-use Rattle.bqn_code.specs.Programs as p
+use Rattle.bqn_execution.specs.Execution as e
+use Rattle.bqn_execution.specs.Programs as p
 use Rattle.bqn_compile.proofs.verified.Fronts.{same_equal, same_itself}
 use Rattle.bqn_simulation.specs.Views.{slots, view, onto, Same, Agree}
 use Rattle.bqn_simulation.proofs.Agree.{binds, pures, faults}

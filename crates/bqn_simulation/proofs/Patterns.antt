@@ -3,33 +3,34 @@ use Rattle.std.proofs.Common.{◌≡◌, ℕ, suc, ◌+◌, ◌&&◌, nat_eq, Bo
 use Rattle.std.specs.List.{list_all}
 use Rattle.std.specs.Option.{option_and_then}
 use Rattle.std.proofs.lemmas.Bool.{eqb-true, eqb-false}
-use Rattle.bqn_base.specs.Raised.{Raised, raised}
-use Rattle.bqn_base.specs.Plain as plain
-use Rattle.bqn_base.specs.Plain.{Number, Character, Array, Given, Derived, Function, Modifier1, Modifier2, Namespace, Values, none, more, count}
+use Rattle.bqn_rows.specs.Raised.{Raised, raised}
+use Rattle.bqn_rows.specs.Plain as plain
+use Rattle.bqn_rows.specs.Plain.{Number, Character, Array, Given, Derived, Function, Modifier1, Modifier2, Namespace, Values, none, more, count}
 use Rattle.bqn_syntax.specs.declared.token.Kind.{Kind}
 use Rattle.bqn_syntax.specs.declared.token.Kind.TheVariants as kind
 use Rattle.bqn_syntax.specs.declared.token.Token.{Token}
 use Rattle.bqn_syntax.specs.declared.tree.Arrow.{Arrow}
 use Rattle.bqn_syntax.specs.declared.tree.Arrow.TheVariants as arrow
-use Rattle.bqn_syntax.specs.Plain as tree
-use Rattle.bqn_syntax.specs.Plain.{no_patterns, and_patterns}
-use Rattle.bqn_syntax.specs.Order.{How, Reads, Defines, Exports, Changes, Shows, by_arrow}
-use Rattle.bqn_syntax.specs.Scope as scope
-use Rattle.bqn_syntax.specs.Scope.{name_of, has}
-use Rattle.bqn_syntax.specs.Actions.{go_on, ◌>>=◌, pure, known, where_so}
-use Rattle.bqn_syntax.specs.Environments as s
-use Rattle.bqn_syntax.specs.Frames.{Setting, Frame, literal}
-use Rattle.bqn_syntax.specs.Matching.{Fit, Fits, Mismatch, Missing, fields_of, field_in, store, store_named, literal_fit, and_fit, as_many, and_name, names_in, store_fields, fields_fit, fit, all_fit, must_fit, bind}
+use Rattle.bqn_syntax.specs.grammar.Trees as tree
+use Rattle.bqn_syntax.specs.grammar.Trees.{no_patterns, and_patterns}
+use Rattle.bqn_code.specs.Plain.{parts}
+use Rattle.bqn_syntax.specs.scope.Order.{How, Reads, Defines, Exports, Changes, Shows, by_arrow}
+use Rattle.bqn_syntax.specs.scope.Scope as scope
+use Rattle.bqn_syntax.specs.scope.Scope.{name_of, has}
+use Rattle.bqn_meaning.specs.Actions.{go_on, ◌>>=◌, pure, known, where_so}
+use Rattle.bqn_meaning.specs.Environments as s
+use Rattle.bqn_meaning.specs.Frames.{Setting, Frame, literal}
+use Rattle.bqn_meaning.specs.Matching.{Fit, Fits, Mismatch, Missing, fields_of, field_in, store, store_named, literal_fit, and_fit, as_many, and_name, names_in, store_fields, fields_fit, fit, all_fit, must_fit, bind}
 use Rattle.bqn_code.specs.declared.constant.Const.{Const}
 use Rattle.bqn_code.specs.Plain as code
-use Rattle.bqn_code.specs.States as c
+use Rattle.bqn_execution.specs.States as c
 use Rattle.bqn_code.specs.Numbering.{Placed, Table}
-use Rattle.bqn_code.specs.Variables as v
-use Rattle.bqn_code.specs.Patterns as p
+use Rattle.bqn_execution.specs.Variables as v
+use Rattle.bqn_execution.specs.Patterns as p
 use Rattle.bqn_compile.specs.Counting.{in_leaves}
 use Rattle.bqn_compile.specs.Pools.{constant_of, name_number, seen_at}
 use Rattle.bqn_compile.specs.Patterns.{stored_leaf, literal_leaf, pattern_code, patterns_code}
-use Rattle.bqn_base.specs.Running.{Res, Gives, Ends, then_do}
+use Rattle.bqn_rows.specs.Running.{Res, Gives, Ends, then_do}
 use Rattle.bqn_simulation.specs.Views.{view, onto, Same}
 use Rattle.bqn_simulation.proofs.Agree.{binds, pures, faults, where_same}
 use Rattle.bqn_compile.proofs.verified.Fronts.{some_same}
@@ -98,11 +99,11 @@ module _ (names : ℕ → List (List ℕ)) (tb : Table) (here : Placed) (uses : 
       by true e = eq-eqb (suc m) (suc n) (ap (λ k. suc k) (eqb-true m n e))
       by false e = differ (suc m) (suc n) (λ q. eqb-false m n e (omega (arith, q)))
 
-  many_same : (k : ℕ) (qs : tree.Patterns) (xs : Values) → nat_eq (p.parts (all_coded k qs)) (count xs) ≡ as_many qs xs
+  many_same : (k : ℕ) (qs : tree.Patterns) (xs : Values) → nat_eq (parts (all_coded k qs)) (count xs) ≡ as_many qs xs
   many_same k no_patterns none = refl
   many_same k no_patterns (more y xs) = differ 0 (suc (count xs)) (λ q. omega (arith, q))
-  many_same k (and_patterns q qs) none = differ (suc (p.parts (all_coded (k + (in_leaves q).uses) qs))) 0 (λ e. omega (arith, e))
-  many_same k (and_patterns q qs) (more y xs) = more_same (p.parts (all_coded (k + (in_leaves q).uses) qs)) (count xs) ∙ many_same (k + (in_leaves q).uses) qs xs
+  many_same k (and_patterns q qs) none = differ (suc (parts (all_coded (k + (in_leaves q).uses) qs))) 0 (λ e. omega (arith, e))
+  many_same k (and_patterns q qs) (more y xs) = more_same (parts (all_coded (k + (in_leaves q).uses) qs)) (count xs) ∙ many_same (k + (in_leaves q).uses) qs xs
 
   -- ---- names, where each part is one
 

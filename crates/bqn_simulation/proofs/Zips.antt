@@ -1,25 +1,25 @@
 -- The blocks and bodies of a code are those of its source, one by one, and of each body is known what its code has.
 use Rattle.std.proofs.Common.{◌≡◌, ℕ, suc, ◌+◌, ◌<◌, ◌≤◌, Bool, true, List, [], ◌∷◌, ◌++◌, length, slice_get, Option, Some, refl, sym, subst, ap, ◌∙◌, arith}
 use Rattle.bqn_syntax.specs.declared.sort.Tag.TheVariants as tag
-use Rattle.bqn_syntax.specs.Plain.{Expr, Value, Train, Modifier, Use, One, Two, Part, Leaf, Elements, Merge, Paren, Block as Braces, Field, Strand, Nothing, Step, Apply, Assign, Modify, BlockTree, block, Derived, derived, MaybePart, none, some, Bodies, Exprs, no_exprs, and_exprs, Uses, no_uses, and_uses, Parts, no_parts, and_parts, Steps, no_steps, and_steps, Deriveds, no_deriveds, and_deriveds, Header, Stmts, no_stmts, and_stmts, Eval, Predicate, Export}
-use Rattle.bqn_syntax.specs.Sorts.{tag as tag_of}
-use Rattle.bqn_syntax.specs.Well.{WellExpr, WellPart, WellSteps, WellStep, WellDerived, WellUses, WellUse, WellDeriveds, WellExprs, WellParts, WellStmts}
-use Rattle.bqn_syntax.specs.Order.{Reads, Changes}
-use Rattle.bqn_syntax.specs.Mentions.{Mentions, no_mentions, expr_mentions, part_mentions, block_mention, maybe_mentions, steps_mentions, step_mentions, derived_mentions, uses_mentions, use_mentions, deriveds_mentions, exprs_mentions, parts_mentions, stmt_mentions, stmts_mentions, scopes_of}
-use Rattle.bqn_syntax.specs.Scope as scope
-use Rattle.bqn_syntax.specs.Scope.{Scope, name_of, spelling, same_name, has as has_name, place_of, system_names}
-use Rattle.bqn_syntax.specs.Blocks.{Numbered}
-use Rattle.bqn_syntax.specs.Bodies.{BodyNames}
+use Rattle.bqn_syntax.specs.grammar.Trees.{Expr, Value, Train, Modifier, Use, One, Two, Part, Leaf, Elements, Merge, Paren, Block as Braces, Field, Strand, Nothing, Step, Apply, Assign, Modify, BlockTree, block, Derived, derived, MaybePart, none, some, Bodies, Exprs, no_exprs, and_exprs, Uses, no_uses, and_uses, Parts, no_parts, and_parts, Steps, no_steps, and_steps, Deriveds, no_deriveds, and_deriveds, Header, Stmts, no_stmts, and_stmts, Eval, Predicate, Export}
+use Rattle.bqn_syntax.specs.grammar.Sorts.{tag as tag_of}
+use Rattle.bqn_syntax.specs.grammar.Well.{WellExpr, WellPart, WellSteps, WellStep, WellDerived, WellUses, WellUse, WellDeriveds, WellExprs, WellParts, WellStmts}
+use Rattle.bqn_syntax.specs.scope.Order.{Reads, Changes}
+use Rattle.bqn_syntax.specs.scope.Mentions.{Mentions, no_mentions, expr_mentions, part_mentions, block_mention, maybe_mentions, steps_mentions, step_mentions, derived_mentions, uses_mentions, use_mentions, deriveds_mentions, exprs_mentions, parts_mentions, stmt_mentions, stmts_mentions, scopes_of}
+use Rattle.bqn_syntax.specs.scope.Scope as scope
+use Rattle.bqn_syntax.specs.scope.Scope.{Scope, name_of, spelling, same_name, has as has_name, place_of, system_names}
+use Rattle.bqn_syntax.specs.blocks.Blocks.{Numbered}
+use Rattle.bqn_syntax.specs.scope.Bodies.{BodyNames}
 use Rattle.bqn_code.specs.declared.code.Block.{Block}
 use Rattle.bqn_code.specs.Plain.{Code}
 use Rattle.bqn_compile.specs.declared.count.Count.{Count}
 use Rattle.bqn_compile.specs.Counting.{past, one_block, in_token, in_targets, in_expr, in_part, in_block, in_maybe, in_steps, in_step, in_derived, in_uses, in_use, in_deriveds, in_exprs, in_parts, in_stmts, in_header}
 use Rattle.bqn_compile.specs.Expressions.{Setting, at_lead}
 use Rattle.bqn_compile.proofs.verified.PlacedCodes.{placed_is}
-use Rattle.bqn_code.specs.Execution.{placed_code}
-use Rattle.bqn_syntax.specs.Leads.{at_start}
-use Rattle.bqn_syntax.specs.Counting.{how_many}
-use Rattle.bqn_syntax.specs.Blocks.{plain_in}
+use Rattle.bqn_execution.specs.Execution.{placed_code}
+use Rattle.bqn_syntax.specs.blocks.Leads.{at_start}
+use Rattle.bqn_syntax.specs.blocks.Counting.{how_many}
+use Rattle.bqn_syntax.specs.blocks.Blocks.{plain_in}
 use Rattle.bqn_compile.specs.Blocks.{bodies_code, expr_blocks, part_blocks, blocks_from, maybe_blocks, steps_blocks, step_blocks, derived_blocks, uses_blocks, use_blocks, deriveds_blocks, exprs_blocks, parts_blocks, stmts_blocks}
 use Rattle.bqn_compile.proofs.Counts.{past-nothing}
 use Rattle.bqn_compile.proofs.verified.Items.{Item, EachItem, expr_items, part_items, block_items, maybe_items, steps_items, step_items, derived_items, uses_items, use_items, deriveds_items, exprs_items, parts_items, stmts_items, header_items, bodies_items}
@@ -29,15 +29,15 @@ use Rattle.bqn_compile.proofs.verified.BlockPlaces.{Stand, stand_front, stand_pa
 use Rattle.bqn_simulation.proofs.Mentioned.{InsideSeen}
 use Rattle.bqn_simulation.proofs.BodyCounts.{count_bodies}
 use Rattle.bqn_simulation.proofs.Told as told
-use Rattle.bqn_syntax.specs.Plain.{body, no_bodies, and_bodies, Stmt}
+use Rattle.bqn_syntax.specs.grammar.Trees.{body, no_bodies, and_bodies, Stmt}
 use Rattle.bqn_syntax.specs.declared.token.Token.{Token}
-use Rattle.bqn_syntax.specs.Order.{How, order_of}
-use Rattle.bqn_syntax.specs.Scope.{names_of, block_scope}
-use Rattle.bqn_syntax.specs.Counting as sc'
-use Rattle.bqn_syntax.specs.Blocks as source
-use Rattle.bqn_syntax.specs.Blocks.{scopes_of as around_of, and_plain, numbered, mentions_of}
-use Rattle.bqn_syntax.specs.Bodies.{exports_of, body_names}
-use Rattle.bqn_syntax.specs.Well.{WellStmt, WellBodies, WellBlock}
+use Rattle.bqn_syntax.specs.scope.Order.{How, order_of}
+use Rattle.bqn_syntax.specs.scope.Scope.{names_of, block_scope}
+use Rattle.bqn_syntax.specs.blocks.Counting as sc'
+use Rattle.bqn_syntax.specs.blocks.Blocks as source
+use Rattle.bqn_syntax.specs.blocks.Blocks.{scopes_of as around_of, and_plain, numbered, mentions_of}
+use Rattle.bqn_syntax.specs.scope.Bodies.{exports_of, body_names}
+use Rattle.bqn_syntax.specs.grammar.Well.{WellStmt, WellBodies, WellBlock}
 use Rattle.bqn_code.specs.declared.code.Body.{Body}
 use Rattle.bqn_compile.specs.Bodies.{kind_code, names_in, exports_code, put_header, put_stmts, body_code, calls_of}
 use Rattle.bqn_compile.specs.Blocks.{stmt_blocks, bodies_blocks}

@@ -5,8 +5,8 @@ use lib.Chars.{codes}
 use Rattle.bqn_base.specs.declared.place.Place.{Place}
 use Rattle.bqn_base.specs.declared.refusal.Refusal.{Refusal}
 use Rattle.bqn_base.specs.declared.refusal.Refusal.TheVariants.{Bracket, TooNested}
-use Rattle.bqn_syntax.specs.Tokens.{tokens_of_text}
-use Rattle.bqn_syntax.specs.Brackets.{partners_of}
+use Rattle.bqn_syntax.specs.text.Tokens.{tokens_of_text}
+use Rattle.bqn_syntax.specs.grammar.Brackets.{partners_of}
 
 abbrev at : ℕ → ℕ → Place
 at line column = record { line = line; column = column }

@@ -1,8 +1,8 @@
 -- A text has at most one cut, which `pieces_of` gives.
 use Rattle.std.proofs.Common.{◌≡◌, ◌≤◌, ◌-◌, ℕ, zero, suc, List, [], ◌∷◌, Option, Some, None, take, drop, refl, sym, ap, ◌∙◌, arith, subst}
 use Rattle.bqn_syntax.specs.declared.progress.Progress.TheVariants.{Start}
-use Rattle.bqn_syntax.specs.Cut.{Cuts, no_more, piece, longest, with_piece, pieces_behind, pieces_of}
-use Rattle.bqn_syntax.specs.Laws.{CutIsUnique}
+use Rattle.bqn_syntax.specs.text.Cut.{Cuts, no_more, piece, longest, with_piece, pieces_behind, pieces_of}
+use Rattle.bqn_syntax.specs.text.Laws.{CutIsUnique}
 use Rattle.bqn_syntax.proofs.Longest.{longest-first, first-longest}
 
 pub pieces_behind-drop : (count : ℕ) (text : List ℕ) → pieces_behind count text ≡ pieces_of (drop count text)

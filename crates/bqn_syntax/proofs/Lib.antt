@@ -5,5 +5,4 @@ mod TokenSamples
 mod GrammarSamples
 mod BracketSamples
 mod ScopeSamples
-mod MeaningSamples
 pub mod BlockNumbers

@@ -2,8 +2,8 @@
 use Rattle.std.proofs.Common.{◌≡◌, ◌≤◌, ℕ, zero, suc, List, [], ◌∷◌, Bool, true, false, Option, Some, None, length, take, refl, sym, ap, ◌∙◌, arith, subst}
 use Rattle.bqn_syntax.specs.declared.progress.Progress.{Progress}
 use Rattle.bqn_syntax.specs.declared.progress.Progress.TheVariants.{Start}
-use Rattle.bqn_syntax.specs.Table.{next, is_final, is_piece_from}
-use Rattle.bqn_syntax.specs.Cut.{IsFirst, one_more, longest}
+use Rattle.bqn_syntax.specs.text.Table.{next, is_final, is_piece_from}
+use Rattle.bqn_syntax.specs.text.Cut.{IsFirst, one_more, longest}
 
 abbrev piece_after : Option Progress → List ℕ → Bool
 piece_after None cs = false

@@ -4,11 +4,11 @@ use lib.Chars.{codes}
 use Rattle.bqn_base.specs.declared.place.Place.{Place}
 use Rattle.bqn_base.specs.declared.refusal.Refusal.{Refusal}
 use Rattle.bqn_base.specs.declared.refusal.Refusal.TheVariants.{Undeclared, Redefined, Early, UnknownSystem}
-use Rattle.bqn_syntax.specs.Tokens.{tokens_of_text}
-use Rattle.bqn_syntax.specs.Plain.{Stmts}
-use Rattle.bqn_syntax.specs.Parsing.{parsed}
-use Rattle.bqn_syntax.specs.Scope.{Use, resolved}
-use Rattle.bqn_syntax.specs.Bodies.{BodyNames, bodies_of}
+use Rattle.bqn_syntax.specs.text.Tokens.{tokens_of_text}
+use Rattle.bqn_syntax.specs.grammar.Trees.{Stmts}
+use Rattle.bqn_syntax.specs.grammar.Parsing.{parsed}
+use Rattle.bqn_syntax.specs.scope.Scope.{Use, resolved}
+use Rattle.bqn_syntax.specs.scope.Bodies.{BodyNames, bodies_of}
 
 abbrev at : ℕ → ℕ → Place
 at line column = record { line = line; column = column }

@@ -12,7 +12,7 @@ use Rattle.bqn_syntax.specs.declared.token.Special.TheVariants.{Right, Modifier}
 use Rattle.bqn_syntax.specs.declared.token.Kind.{Kind}
 use Rattle.bqn_syntax.specs.declared.token.Kind.TheVariants as kind
 use Rattle.bqn_syntax.specs.declared.token.Token.{Token}
-use Rattle.bqn_syntax.specs.Tokens.{tokens_of_text, tokens_of_source}
+use Rattle.bqn_syntax.specs.text.Tokens.{tokens_of_text, tokens_of_source}
 
 abbrev at : ℕ → ℕ → Place
 at line column = record { line = line; column = column }

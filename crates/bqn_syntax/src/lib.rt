@@ -1,7 +1,6 @@
 //! The types of a source and of its tokens. What they mean stands in `specs/`.
 #![tactic(auto)]
 
-mod function;
 mod laws;
 mod open;
 mod pattern;
@@ -10,7 +9,6 @@ mod sort;
 mod token;
 mod tree;
 
-pub use function::Function;
 pub use laws::cut_is_unique;
 pub use open::Open;
 pub use pattern::{Header, Pattern};

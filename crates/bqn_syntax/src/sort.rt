@@ -1,5 +1,5 @@
 ghost use Rattle.std.specs.Prelude.{◌≡◌};
-ghost use Rattle.bqn_syntax.specs.Sorts.{role_tag};
+ghost use Rattle.bqn_syntax.specs.grammar.Sorts.{role_tag};
 
 use crate::tree::Arrow;
 use bqn_base::Role;

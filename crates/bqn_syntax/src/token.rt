@@ -1,5 +1,5 @@
 ghost use Rattle.std.specs.Prelude.{◌≡◌, IfOk};
-ghost use Rattle.bqn_syntax.specs.Sorts.{sort_of, kind_tag};
+ghost use Rattle.bqn_syntax.specs.grammar.Sorts.{sort_of, kind_tag};
 
 use crate::sort::{Bracket, Sort, Tag};
 use crate::tree::Arrow;

@@ -11,10 +11,10 @@ use Rattle.bqn_syntax.specs.declared.progress.Progress.TheVariants.{Start, Done,
 use Rattle.bqn_syntax.specs.declared.token.Special.{Special}
 use Rattle.bqn_syntax.specs.declared.token.Special.TheVariants as special
 use Rattle.bqn_syntax.specs.declared.token.Kind.{Kind}
-use Rattle.bqn_syntax.specs.Table.{is_one_of, singles, blanks, punctuation, is_digit, is_letter, is_name_start, is_word, first_state, is_piece}
-use Rattle.bqn_syntax.specs.Tokens.{Trouble, kind_of, number_kind}
+use Rattle.bqn_syntax.specs.text.Table.{is_one_of, singles, blanks, punctuation, is_digit, is_letter, is_name_start, is_word, first_state, is_piece}
+use Rattle.bqn_syntax.specs.text.Tokens.{Trouble, kind_of, number_kind}
 use Rattle.bqn_base.specs.Literal.{literal}
-use Rattle.bqn_syntax.specs.Words.{special_of, role_of}
+use Rattle.bqn_syntax.specs.text.Words.{special_of, role_of}
 use Rattle.bqn_token.specs.declared.single.Alone.{Alone}
 use Rattle.bqn_token.specs.declared.single.Alone.TheVariants as alone
 use Rattle.bqn_token.specs.Alones.{mark_of, single_of, shown_alone}

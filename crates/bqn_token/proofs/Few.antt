@@ -7,8 +7,8 @@ use Rattle.bqn_base.specs.declared.refusal.Refusal.{Refusal}
 use Rattle.bqn_syntax.specs.declared.progress.Progress.TheVariants.{Start}
 use Rattle.bqn_syntax.specs.declared.token.Kind.{Kind}
 use Rattle.bqn_syntax.specs.declared.token.Token.{Token}
-use Rattle.bqn_syntax.specs.Cut.{longest}
-use Rattle.bqn_syntax.specs.Tokens.{Trouble, refused_at, no_piece, kind_of, behind, with_kind, tokens_behind, tokens_of_text, first_place}
+use Rattle.bqn_syntax.specs.text.Cut.{longest}
+use Rattle.bqn_syntax.specs.text.Tokens.{Trouble, refused_at, no_piece, kind_of, behind, with_kind, tokens_behind, tokens_of_text, first_place}
 use Rattle.bqn_token.specs.declared.error.TokenError.{TokenError}
 use Rattle.bqn_token.specs.Tokenizing.{Tokenizes}
 

@@ -8,8 +8,8 @@ use Rattle.bqn_base.specs.Literal.{Literal, Number, Bad, Range}
 use Rattle.bqn_syntax.specs.declared.token.Special.{Special}
 use Rattle.bqn_syntax.specs.declared.token.Kind.{Kind}
 use Rattle.bqn_syntax.specs.declared.token.Kind.TheVariants as kind
-use Rattle.bqn_syntax.specs.Tokens.{number_kind}
-use Rattle.bqn_syntax.specs.Words.{role_of}
+use Rattle.bqn_syntax.specs.text.Tokens.{number_kind}
+use Rattle.bqn_syntax.specs.text.Words.{role_of}
 use Rattle.bqn_token.specs.Tokenizing.{placed}
 use Rattle.bqn_literal.specs.Results.{number_of}
 use Rattle.bqn_literal.specs.declared.error.NumberError.TheVariants as e

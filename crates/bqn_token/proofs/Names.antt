@@ -14,7 +14,7 @@ use Rattle.bqn_base.specs.Characters.{is_upper, is_letter}
 use Rattle.bqn_syntax.specs.declared.token.Special.TheVariants.{Modifier}
 use Rattle.bqn_syntax.specs.declared.token.Kind.{Kind}
 use Rattle.bqn_syntax.specs.declared.token.Kind.TheVariants as kind
-use Rattle.bqn_syntax.specs.Words.{begins_with_letter, is_modifier_word, is_name_character, is_name_word, lower_case, name_of, role_of, word_kind}
+use Rattle.bqn_syntax.specs.text.Words.{begins_with_letter, is_modifier_word, is_name_character, is_name_word, lower_case, name_of, role_of, word_kind}
 
 abbrev letter_if : Bool → ℕ → List ℕ → Bool
 letter_if under c cs = elim under [ true ↦ begins_with_letter cs | false ↦ is_letter c ]

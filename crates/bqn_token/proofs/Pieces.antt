@@ -8,10 +8,10 @@ use Rattle.bqn_syntax.specs.declared.progress.Progress.{Progress}
 use Rattle.bqn_syntax.specs.declared.progress.Progress.TheVariants.{Start, Done}
 use Rattle.bqn_syntax.specs.declared.token.Kind.{Kind}
 use Rattle.bqn_syntax.specs.declared.token.Token.{Token}
-use Rattle.bqn_syntax.specs.Table.{is_piece}
-use Rattle.bqn_syntax.specs.Cut.{longest, one_more}
-use Rattle.bqn_syntax.specs.Text.{text_of}
-use Rattle.bqn_syntax.specs.Tokens.{Trouble, refused_at, no_piece, kind_of, behind, past, with_kind, tokens_behind, tokens_of_text, tokens_of_source}
+use Rattle.bqn_syntax.specs.text.Table.{is_piece}
+use Rattle.bqn_syntax.specs.text.Cut.{longest, one_more}
+use Rattle.bqn_syntax.specs.text.Text.{text_of}
+use Rattle.bqn_syntax.specs.text.Tokens.{Trouble, refused_at, no_piece, kind_of, behind, past, with_kind, tokens_behind, tokens_of_text, tokens_of_source}
 use Rattle.bqn_syntax.proofs.Longest.{longest-first}
 use Rattle.bqn_token.specs.declared.error.TokenError.{TokenError}
 use Rattle.bqn_token.specs.declared.error.TokenError.TheVariants.{Refused, Memory}

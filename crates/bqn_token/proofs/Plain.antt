@@ -9,9 +9,9 @@ use Rattle.bqn_base.specs.Characters.{is_digit, is_letter, is_lower, is_upper}
 use Rattle.bqn_base.specs.Names.{is_name_character as is_plain}
 use Rattle.bqn_syntax.specs.declared.token.Kind.{Kind}
 use Rattle.bqn_syntax.specs.declared.token.Kind.TheVariants as kind
-use Rattle.bqn_syntax.specs.Table.{is_one_of, blanks, is_name_start}
-use Rattle.bqn_syntax.specs.Tokens.{Trouble, kind_of, name_kind}
-use Rattle.bqn_syntax.specs.Words.{begins_with_letter, is_name_character, is_name_word, role_of, word_kind}
+use Rattle.bqn_syntax.specs.text.Table.{is_one_of, blanks, is_name_start}
+use Rattle.bqn_syntax.specs.text.Tokens.{Trouble, kind_of, name_kind}
+use Rattle.bqn_syntax.specs.text.Words.{begins_with_letter, is_name_character, is_name_word, role_of, word_kind}
 use Rattle.bqn_token.specs.Runs.{is_plain_name}
 use Rattle.bqn_token.proofs.Alones.{other}
 use Rattle.bqn_token.proofs.Names.{both-left, both-right, name_of-plain, kind-name}

@@ -4,8 +4,8 @@ use Rattle.std.specs.Prelude.{not, ◌==◌, ◌&&◌, if◌then◌else◌, Opti
 use Rattle.bqn_base.specs.Literal.{is_doubled}
 use Rattle.bqn_syntax.specs.declared.progress.Progress.{Progress}
 use Rattle.bqn_syntax.specs.declared.progress.Progress.TheVariants.{Inside, Closed}
-use Rattle.bqn_syntax.specs.Table.{next, is_piece_from}
-use Rattle.bqn_syntax.specs.Tokens.{all_but_last}
+use Rattle.bqn_syntax.specs.text.Table.{next, is_piece_from}
+use Rattle.bqn_syntax.specs.text.Tokens.{all_but_last}
 
 all_but_last-push : (front : List ℕ) (c : ℕ) → all_but_last (front ++ c ∷ []) ≡ front
 all_but_last-push [] c = refl

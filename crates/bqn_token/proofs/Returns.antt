@@ -4,7 +4,7 @@ use Rattle.std.proofs.lemmas.Bool.{eqb-true}
 use Rattle.std.specs.Prelude.{◌==◌, ◌&&◌, ◌||◌, nat_eq, if◌then◌else◌}
 use Rattle.std.specs.List.{list_any}
 use Rattle.std.proofs.lemmas.List.{take_more, take_all}
-use Rattle.bqn_syntax.specs.Text.{without_returns, is_dropped}
+use Rattle.bqn_syntax.specs.text.Text.{without_returns, is_dropped}
 use Rattle.bqn_token.specs.Tokenizing.{without_last_return, with_character}
 
 abbrev kept_if : Bool → ℕ → List ℕ → List ℕ

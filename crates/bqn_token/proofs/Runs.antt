@@ -5,8 +5,8 @@ use Rattle.std.specs.Option.{option_map}
 use Rattle.std.proofs.Math.ListN.{drop_of_length-le}
 use Rattle.bqn_syntax.specs.declared.progress.Progress.{Progress}
 use Rattle.bqn_syntax.specs.declared.progress.Progress.TheVariants.{Start, Comment, Word, Digit, Dot}
-use Rattle.bqn_syntax.specs.Table.{is_digit, is_name_start, is_word, within_word, next, is_final}
-use Rattle.bqn_syntax.specs.Cut.{longest, one_more}
+use Rattle.bqn_syntax.specs.text.Table.{is_digit, is_name_start, is_word, within_word, next, is_final}
+use Rattle.bqn_syntax.specs.text.Cut.{longest, one_more}
 use Rattle.bqn_base.specs.Characters.{is_lower, is_upper}
 use Rattle.bqn_base.specs.Names.{is_name_character as is_plain}
 use Rattle.bqn_token.specs.Runs.{ends_word, line_extent, word_extent}

@@ -3,8 +3,8 @@ use Rattle.std.proofs.Common.{◌≡◌, ◌≤◌, ◌<◌, ◌+◌, ℕ, suc, 
 use Rattle.std.proofs.Math.ListN.{drop_of_length-le}
 use Rattle.bqn_syntax.specs.declared.progress.Progress.{Progress}
 use Rattle.bqn_syntax.specs.declared.progress.Progress.TheVariants.{Start}
-use Rattle.bqn_syntax.specs.Table.{next, is_final}
-use Rattle.bqn_syntax.specs.Cut.{longest, one_more}
+use Rattle.bqn_syntax.specs.text.Table.{next, is_final}
+use Rattle.bqn_syntax.specs.text.Cut.{longest, one_more}
 
 -- the longest of all, where best is the longest that ends at this index or before
 abbrev pub or_best : Option ℕ → ℕ → Option ℕ → Option ℕ

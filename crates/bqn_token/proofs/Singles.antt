@@ -6,7 +6,7 @@ use Rattle.std.specs.List.{position_or_len}
 use Rattle.std.proofs.lemmas.Bool.{eqb-true}
 use Rattle.std.proofs.lemmas.Bool.Decides.{nat_tests}
 use Rattle.std.proofs.lemmas.List.Folds.{list_any-append}
-use Rattle.bqn_syntax.specs.Table.{is_one_of, singles}
+use Rattle.bqn_syntax.specs.text.Table.{is_one_of, singles}
 use Rattle.bqn_token.specs.Singles.{primitives, marks, is_mark, place_between}
 
 -- the place of a character, counted on from a number

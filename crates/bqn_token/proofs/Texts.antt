@@ -7,7 +7,7 @@ use Rattle.std.proofs.lemmas.Bool.Decides.{nat_tests}
 use Rattle.std.proofs.lemmas.Str.{is_utf8-from_IsUtf8, IsUtf8-from_is_utf8, encodes-chars, length-le-encodes, utf8_valid_len_le}
 use Rattle.bqn_base.specs.declared.refusal.Refusal.{Refusal}
 use Rattle.bqn_base.specs.declared.refusal.Refusal.TheVariants.{TooLong, NotUtf8}
-use Rattle.bqn_syntax.specs.Text.{text_of, without_returns}
+use Rattle.bqn_syntax.specs.text.Text.{text_of, without_returns}
 use Rattle.bqn_token.proofs.Returns.{length-without_returns}
 
 abbrev text_if : Bool → Bool → List ℕ → Result (List ℕ) Refusal

@@ -3,8 +3,8 @@ use Rattle.std.specs.Prelude.{ℕ, ◌==◌, cond, [], ◌∷◌, Option, Some, 
 use Rattle.std.specs.Option.{option_map}
 use Rattle.bqn_syntax.specs.declared.token.Kind.{Kind}
 use Rattle.bqn_syntax.specs.declared.token.Kind.TheVariants as kind
-use Rattle.bqn_syntax.specs.Table.{is_one_of, blanks, punctuation}
-use Rattle.bqn_syntax.specs.Words.{special_of, role_of}
+use Rattle.bqn_syntax.specs.text.Table.{is_one_of, blanks, punctuation}
+use Rattle.bqn_syntax.specs.text.Words.{special_of, role_of}
 use Rattle.bqn_token.specs.declared.single.Alone.{Alone}
 use Rattle.bqn_token.specs.declared.single.Alone.TheVariants as alone
 use Rattle.bqn_token.specs.Singles.{primitives}

@@ -4,7 +4,7 @@ use Rattle.std.specs.Option.{option_map}
 use Rattle.std.specs.List.{list_all}
 use Rattle.bqn_base.specs.Characters.{is_lower}
 use Rattle.bqn_base.specs.Names.{is_name_character}
-use Rattle.bqn_syntax.specs.Table.{is_word}
+use Rattle.bqn_syntax.specs.text.Table.{is_word}
 
 -- how many characters stand before the first newline
 abbrev pub line_extent : List ℕ → ℕ

@@ -1,7 +1,7 @@
 -- Characters that are pieces by themselves, parted by their codes.
 use Rattle.std.specs.Prelude.{ℕ, ◌+◌, nat_le, nat_lt, ◌==◌, Bool, ◌&&◌, cond, List, [], ◌∷◌, ◌++◌, Option, Some, None}
 use lib.Chars.{codes}
-use Rattle.bqn_syntax.specs.Table.{is_one_of, blanks, punctuation, special_names, primitive_functions, primitive_modifiers}
+use Rattle.bqn_syntax.specs.text.Table.{is_one_of, blanks, punctuation, special_names, primitive_functions, primitive_modifiers}
 
 -- the primitives in the order of their codes
 abbrev pub primitives : List ℕ

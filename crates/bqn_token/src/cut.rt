@@ -1,6 +1,6 @@
 ghost use Rattle.std.specs.Prelude.{◌≡◌, ◌≤◌, ◌<◌, ◌+◌, ◌^◌, ◌++◌, length};
 ghost use Rattle.std.specs.Vec.{vec_capacity, vec_len};
-ghost use Rattle.bqn_syntax.specs.Tokens.{tokens_of_text};
+ghost use Rattle.bqn_syntax.specs.text.Tokens.{tokens_of_text};
 ghost use Rattle.bqn_token.specs.Tokenizing.{Tokenizes, token_at};
 
 use crate::error::TokenError;

@@ -1,6 +1,6 @@
 ghost use Rattle.std.specs.Prelude.{◌≡◌, ◌||◌};
-ghost use Rattle.bqn_syntax.specs.Table.{first_state, is_digit, is_final, is_letter, is_name_start, is_word, next, within_word};
-ghost use Rattle.bqn_syntax.specs.Cut.{longest};
+ghost use Rattle.bqn_syntax.specs.text.Table.{first_state, is_digit, is_final, is_letter, is_name_start, is_word, next, within_word};
+ghost use Rattle.bqn_syntax.specs.text.Cut.{longest};
 ghost use Rattle.bqn_token.specs.Runs.{ends_word, line_extent, word_extent};
 ghost use Rattle.bqn_syntax.specs.declared.progress.Progress.TheVariants.{Start};
 

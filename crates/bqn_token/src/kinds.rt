@@ -1,8 +1,8 @@
 ghost use Rattle.std.specs.Prelude.{◌≡◌, IfOk, IsTrue, Ok, Some, [], ◌∷◌};
 ghost use Rattle.bqn_base.specs.Literal.{literal, unquoted};
 ghost use Rattle.bqn_base.specs.Names.{is_name_character as is_plain};
-ghost use Rattle.bqn_syntax.specs.Table.{is_piece, is_piece_from};
-ghost use Rattle.bqn_syntax.specs.Tokens.{all_but_last, kind_of, name_kind, no_piece, number_kind, quoted, refused_at};
+ghost use Rattle.bqn_syntax.specs.text.Table.{is_piece, is_piece_from};
+ghost use Rattle.bqn_syntax.specs.text.Tokens.{all_but_last, kind_of, name_kind, no_piece, number_kind, quoted, refused_at};
 ghost use Rattle.bqn_syntax.specs.declared.progress.Progress.TheVariants.{Inside};
 ghost use Rattle.bqn_syntax.specs.declared.token.Kind.TheVariants as kind;
 ghost use Rattle.bqn_token.specs.Runs.{is_short_word};

@@ -1,5 +1,5 @@
 ghost use Rattle.std.specs.Prelude.{◌≡◌, ◌+◌, ◌<◌, ◌^◌, length};
-ghost use Rattle.bqn_syntax.specs.Tokens.{behind, past};
+ghost use Rattle.bqn_syntax.specs.text.Tokens.{behind, past};
 
 use bqn_base::Place;
 

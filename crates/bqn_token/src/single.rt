@@ -1,5 +1,5 @@
 ghost use Rattle.std.specs.Prelude.{◌≡◌, position, ◌==◌};
-ghost use Rattle.bqn_syntax.specs.Table.{is_one_of, singles};
+ghost use Rattle.bqn_syntax.specs.text.Table.{is_one_of, singles};
 ghost use Rattle.bqn_token.specs.Alones.{mark_of, shown_alone, single_of};
 ghost use Rattle.bqn_token.specs.Singles.{place_between, primitives};
 

@@ -1,5 +1,5 @@
 ghost use Rattle.std.specs.Prelude.{◌≤◌, ◌^◌, IfOk, length};
-ghost use Rattle.bqn_syntax.specs.Tokens.{tokens_of_source};
+ghost use Rattle.bqn_syntax.specs.text.Tokens.{tokens_of_source};
 ghost use Rattle.bqn_token.specs.Tokenizing.{Tokenizes};
 
 use crate::cut::tokens_in;

@@ -1,6 +1,6 @@
 ghost use Rattle.std.specs.Prelude.{◌≡◌, ◌≤◌, ◌^◌, IfOk, OnOk, length};
 ghost use Rattle.std.specs.Str.{chars};
-ghost use Rattle.bqn_syntax.specs.Text.{text_of, without_returns};
+ghost use Rattle.bqn_syntax.specs.text.Text.{text_of, without_returns};
 ghost use Rattle.bqn_token.specs.Tokenizing.{GivesAs, with_character, without_last_return};
 
 use crate::error::TokenError;

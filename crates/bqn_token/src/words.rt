@@ -2,8 +2,8 @@ ghost use Rattle.std.specs.Prelude.{◌≡◌, IfOk, IsTrue, OnOk, Ok, Some};
 ghost use Rattle.std.specs.List.{list_all};
 ghost use Rattle.bqn_base.specs.Characters.{is_lower};
 ghost use Rattle.bqn_base.specs.Names.{is_name_character as is_plain};
-ghost use Rattle.bqn_syntax.specs.Tokens.{kind_of};
-ghost use Rattle.bqn_syntax.specs.Words.{begins_with_letter, is_modifier_word, is_name_character, is_name_word, lower_case, name_of, system_kind, word_kind};
+ghost use Rattle.bqn_syntax.specs.text.Tokens.{kind_of};
+ghost use Rattle.bqn_syntax.specs.text.Words.{begins_with_letter, is_modifier_word, is_name_character, is_name_word, lower_case, name_of, system_kind, word_kind};
 ghost use Rattle.bqn_token.specs.Runs.{is_plain_name};
 
 use crate::extent::{is_a_digit, is_a_letter};

@@ -4,14 +4,14 @@ use Rattle.std.proofs.lemmas.Bool.{false≢true}
 use Rattle.bqn_base.specs.declared.place.Place.{Place}
 use Rattle.bqn_syntax.specs.declared.token.Token.{Token}
 use Rattle.bqn_syntax.specs.declared.tree.Class.{Class}
-use Rattle.bqn_syntax.specs.Plain.{BodyTree, body, BlockTree, block, Bodies, no_bodies, and_bodies}
-use Rattle.bqn_syntax.specs.Counting.{how_many}
-use Rattle.bqn_syntax.specs.Blocks.{and_plain, plain_in}
-use Rattle.bqn_syntax.specs.Exporting.{stmts_export}
-use Rattle.bqn_syntax.specs.Order.{How, order_of}
-use Rattle.bqn_syntax.specs.Mentions.{Inner, Mentions, no_mentions, and_mentions, header_mentions, stmts_mentions, scopes_of, block_mention}
-use Rattle.bqn_syntax.specs.Scope.{Scope, Use, names_of, block_scope, has, uses_of, uses_inside}
-use Rattle.bqn_syntax.specs.Bodies.{BodyNames, body_names, exports_of, of_block, inside, inside_block}
+use Rattle.bqn_syntax.specs.grammar.Trees.{BodyTree, body, BlockTree, block, Bodies, no_bodies, and_bodies}
+use Rattle.bqn_syntax.specs.blocks.Counting.{how_many}
+use Rattle.bqn_syntax.specs.blocks.Blocks.{and_plain, plain_in}
+use Rattle.bqn_syntax.specs.blocks.Exporting.{stmts_export}
+use Rattle.bqn_syntax.specs.scope.Order.{How, order_of}
+use Rattle.bqn_syntax.specs.scope.Mentions.{Inner, Mentions, no_mentions, and_mentions, header_mentions, stmts_mentions, scopes_of, block_mention}
+use Rattle.bqn_syntax.specs.scope.Scope.{Scope, Use, names_of, block_scope, has, uses_of, uses_inside}
+use Rattle.bqn_syntax.specs.scope.Bodies.{BodyNames, body_names, exports_of, of_block, inside, inside_block}
 use Rattle.bqn_code.specs.declared.instr.Instr.{Instr}
 use Rattle.bqn_compile.specs.declared.count.Count.{Count}
 use Rattle.bqn_compile.specs.Counting.{past, one_block, in_header, in_body, in_bodies, in_block}

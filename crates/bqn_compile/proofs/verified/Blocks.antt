@@ -6,12 +6,12 @@ use Rattle.std.proofs.lemmas.List.{length-map}
 use Rattle.bqn_syntax.specs.declared.token.Token.{Token}
 use Rattle.bqn_syntax.specs.declared.tree.Class.{Class}
 use Rattle.bqn_syntax.specs.declared.tree.Class.TheVariants as class
-use Rattle.bqn_syntax.specs.Plain.{Header, Stmts, BodyTree, body, Bodies, no_bodies, and_bodies}
-use Rattle.bqn_syntax.specs.Well.{Well, WellStmts, WellBodies}
-use Rattle.bqn_syntax.specs.Classes.{Calls, Both}
-use Rattle.bqn_syntax.specs.Counting.{how_many}
-use Rattle.bqn_syntax.specs.Blocks.{and_plain, plain_in}
-use Rattle.bqn_syntax.specs.Bodies.{BodyNames, Resolution}
+use Rattle.bqn_syntax.specs.grammar.Trees.{Header, Stmts, BodyTree, body, Bodies, no_bodies, and_bodies}
+use Rattle.bqn_syntax.specs.grammar.Well.{Well, WellStmts, WellBodies}
+use Rattle.bqn_syntax.specs.grammar.Classes.{Calls, Both}
+use Rattle.bqn_syntax.specs.blocks.Counting.{how_many}
+use Rattle.bqn_syntax.specs.blocks.Blocks.{and_plain, plain_in}
+use Rattle.bqn_syntax.specs.scope.Bodies.{BodyNames, Resolution}
 use Rattle.bqn_code.specs.declared.instr.Instr.{Instr}
 use Rattle.bqn_code.specs.declared.instr.Instr.TheVariants as i
 use Rattle.bqn_code.specs.declared.code.Body.{Body}

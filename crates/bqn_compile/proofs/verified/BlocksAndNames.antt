@@ -1,9 +1,9 @@
 -- The blocks and names of a code are few.
 use Rattle.std.proofs.Common.{◌≡◌, ◌≤◌, suc, ◌+◌, List, length, Ok, subst, arith}
 use Rattle.bqn_syntax.specs.declared.token.Token.{Token}
-use Rattle.bqn_syntax.specs.Plain.{Stmts}
-use Rattle.bqn_syntax.specs.Spells.{Spells}
-use Rattle.bqn_syntax.specs.Bodies.{Resolution}
+use Rattle.bqn_syntax.specs.grammar.Trees.{Stmts}
+use Rattle.bqn_syntax.specs.grammar.Spells.{Spells}
+use Rattle.bqn_syntax.specs.scope.Bodies.{Resolution}
 use Rattle.bqn_code.specs.declared.code.Block.{Block}
 use Rattle.bqn_code.specs.Plain.{Code}
 use Rattle.bqn_compile.specs.Counting.{in_stmts}

@@ -2,11 +2,11 @@
 use Rattle.std.proofs.Common.{◌≡◌, ℕ, true, false, slice_get, IsTrue, List}
 use Rattle.std.specs.List.{list_all}
 use Rattle.bqn_syntax.specs.declared.tree.Class.{Class}
-use Rattle.bqn_syntax.specs.Plain.{Stmts, BodyTree, body}
-use Rattle.bqn_syntax.specs.Exporting.{stmts_export}
-use Rattle.bqn_syntax.specs.Bodies.{Resolution}
-use Rattle.bqn_syntax.specs.Deriving.{waits}
-use Rattle.bqn_syntax.specs.Well.{WellStmts}
+use Rattle.bqn_syntax.specs.grammar.Trees.{Stmts, BodyTree, body}
+use Rattle.bqn_syntax.specs.blocks.Exporting.{stmts_export}
+use Rattle.bqn_syntax.specs.scope.Bodies.{Resolution}
+use Rattle.bqn_syntax.specs.grammar.Classes.{waits}
+use Rattle.bqn_syntax.specs.grammar.Well.{WellStmts}
 use Rattle.bqn_code.specs.Plain.{Code}
 use Rattle.bqn_code.specs.Heights.{is_balanced}
 use Rattle.bqn_code.specs.Conditions as is

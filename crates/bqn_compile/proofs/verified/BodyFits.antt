@@ -6,12 +6,12 @@ use Rattle.bqn_syntax.specs.declared.tree.Class.{Class}
 use Rattle.bqn_syntax.specs.declared.tree.Class.TheVariants as class
 use Rattle.bqn_syntax.specs.declared.sort.Tag.{Tag}
 use Rattle.bqn_syntax.specs.declared.sort.Tag.TheVariants as tag
-use Rattle.bqn_syntax.specs.Sorts.{same_tag}
-use Rattle.bqn_syntax.specs.Headers.{own_tag}
-use Rattle.bqn_syntax.specs.Plain.{Pattern, Header, BodyTree, body, Stmts}
-use Rattle.bqn_syntax.specs.Classes.{Seen, nothing, Marks, marks_of, Calls, Monadic, Dyadic, Both, argument_calls, body_calls, has_predicate, is_some, has_argument, has_one_self, has_two, has_one, has_function, is_deferred, heads, in_stmts}
-use Rattle.bqn_syntax.specs.Well.{SelfFits, HeaderFits, WellBody, WellStmts}
-use Rattle.bqn_syntax.specs.Deriving.{waits}
+use Rattle.bqn_syntax.specs.grammar.Sorts.{same_tag}
+use Rattle.bqn_syntax.specs.grammar.Headers.{own_tag}
+use Rattle.bqn_syntax.specs.grammar.Trees.{Pattern, Header, BodyTree, body, Stmts}
+use Rattle.bqn_syntax.specs.grammar.Classes.{Seen, nothing, Marks, marks_of, Calls, Monadic, Dyadic, Both, argument_calls, body_calls, has_predicate, is_some, has_argument, has_one_self, has_two, has_one, has_function, is_deferred, heads, in_stmts}
+use Rattle.bqn_syntax.specs.grammar.Well.{SelfFits, HeaderFits, WellBody, WellStmts}
+use Rattle.bqn_syntax.specs.grammar.Classes.{waits}
 use Rattle.bqn_code.specs.Conditions.{is_modifier, is_modifier2, is_run_on, is_kind_for}
 use Rattle.bqn_compile.specs.Bodies.{kind_code, calls_of}
 use Rattle.bqn_compile.proofs.verified.Tests.{or_left, or_right}

@@ -9,15 +9,15 @@ use Rattle.bqn_syntax.specs.declared.token.Token.{Token}
 use Rattle.bqn_syntax.specs.declared.tree.Class.{Class}
 use Rattle.bqn_syntax.specs.declared.sort.Tag.{Tag}
 use Rattle.bqn_syntax.specs.declared.sort.Tag.TheVariants as tag
-use Rattle.bqn_syntax.specs.Sorts.{same_tag}
-use Rattle.bqn_syntax.specs.Headers.{own_tag}
-use Rattle.bqn_syntax.specs.Plain.{Pattern, Name, Skip, Literal, ListPattern, StrandPattern, Header, Eval, Predicate, Export, BodyTree, body, Stmts, no_stmts, and_stmts}
-use Rattle.bqn_syntax.specs.Classes.{Calls, has_predicate, is_some}
-use Rattle.bqn_syntax.specs.Exporting.{stmts_export}
-use Rattle.bqn_syntax.specs.Scope as scope
-use Rattle.bqn_syntax.specs.Bodies.{BodyNames}
-use Rattle.bqn_syntax.specs.Deriving.{waits}
-use Rattle.bqn_syntax.specs.Well.{SelfFits, SidesFit, HeaderFits, WellStmts}
+use Rattle.bqn_syntax.specs.grammar.Sorts.{same_tag}
+use Rattle.bqn_syntax.specs.grammar.Headers.{own_tag}
+use Rattle.bqn_syntax.specs.grammar.Trees.{Pattern, Name, Skip, Literal, ListPattern, StrandPattern, Header, Eval, Predicate, Export, BodyTree, body, Stmts, no_stmts, and_stmts}
+use Rattle.bqn_syntax.specs.grammar.Classes.{Calls, has_predicate, is_some}
+use Rattle.bqn_syntax.specs.blocks.Exporting.{stmts_export}
+use Rattle.bqn_syntax.specs.scope.Scope as scope
+use Rattle.bqn_syntax.specs.scope.Bodies.{BodyNames}
+use Rattle.bqn_syntax.specs.grammar.Classes.{waits}
+use Rattle.bqn_syntax.specs.grammar.Well.{SelfFits, SidesFit, HeaderFits, WellStmts}
 use Rattle.bqn_code.specs.declared.instr.Instr.{Instr}
 use Rattle.bqn_code.specs.declared.instr.Instr.TheVariants as i
 use Rattle.bqn_code.specs.Conditions.{may_fail, is_modifier, is_modifier2, is_run_on}

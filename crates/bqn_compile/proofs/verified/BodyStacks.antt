@@ -4,12 +4,12 @@ use Rattle.bqn_base.specs.declared.role.Role.TheVariants as role
 use Rattle.bqn_syntax.specs.declared.token.Kind.{Kind}
 use Rattle.bqn_syntax.specs.declared.token.Kind.TheVariants as kind
 use Rattle.bqn_syntax.specs.declared.token.Token.{Token}
-use Rattle.bqn_syntax.specs.Plain.{Pattern, Name, Skip, Literal, ListPattern, StrandPattern, Header, Eval, Predicate, Export, BodyTree, body, Stmts, no_stmts, and_stmts}
-use Rattle.bqn_syntax.specs.Classes.{Calls}
-use Rattle.bqn_syntax.specs.Exporting.{stmts_export}
-use Rattle.bqn_syntax.specs.Scope.{Seen, Use as NameUse}
-use Rattle.bqn_syntax.specs.Bodies.{BodyNames}
-use Rattle.bqn_syntax.specs.Well.{WellStmts, WellBody}
+use Rattle.bqn_syntax.specs.grammar.Trees.{Pattern, Name, Skip, Literal, ListPattern, StrandPattern, Header, Eval, Predicate, Export, BodyTree, body, Stmts, no_stmts, and_stmts}
+use Rattle.bqn_syntax.specs.grammar.Classes.{Calls}
+use Rattle.bqn_syntax.specs.blocks.Exporting.{stmts_export}
+use Rattle.bqn_syntax.specs.scope.Scope.{Seen, Use as NameUse}
+use Rattle.bqn_syntax.specs.scope.Bodies.{BodyNames}
+use Rattle.bqn_syntax.specs.grammar.Well.{WellStmts, WellBody}
 use Rattle.bqn_code.specs.declared.instr.Instr.{Instr}
 use Rattle.bqn_code.specs.declared.instr.Instr.TheVariants as i
 use Rattle.bqn_code.specs.Heights.{is_balanced}

@@ -4,10 +4,10 @@ use Rattle.std.specs.List.{list_all, list_any}
 use Rattle.std.proofs.lemmas.Bool.{true≢false, leb-true}
 use Rattle.bqn_syntax.specs.declared.tree.Class.{Class}
 use Rattle.bqn_syntax.specs.declared.tree.Class.TheVariants as class
-use Rattle.bqn_syntax.specs.Plain.{Bodies, no_bodies, and_bodies}
-use Rattle.bqn_syntax.specs.Blocks.{plain_in}
-use Rattle.bqn_syntax.specs.Classes.{Marks, marks_of, marks_in, has_two, has_one, has_one_self, has_function, is_deferred, is_plain, plain_last, most_plain, has_statement, class_if, class_of}
-use Rattle.bqn_syntax.specs.Deriving.{waits}
+use Rattle.bqn_syntax.specs.grammar.Trees.{Bodies, no_bodies, and_bodies}
+use Rattle.bqn_syntax.specs.blocks.Blocks.{plain_in}
+use Rattle.bqn_syntax.specs.grammar.Classes.{Marks, marks_of, marks_in, has_two, has_one, has_one_self, has_function, is_deferred, is_plain, plain_last, most_plain, has_statement, class_if, class_of}
+use Rattle.bqn_syntax.specs.grammar.Classes.{waits}
 use Rattle.bqn_code.specs.Conditions.{is_modifier, is_modifier2}
 use Rattle.bqn_compile.proofs.verified.Tests.{right_true}
 

@@ -9,12 +9,12 @@ use Rattle.bqn_syntax.specs.declared.tree.Arrow.{Arrow}
 use Rattle.bqn_syntax.specs.declared.tree.Arrow.TheVariants as arrow
 use Rattle.bqn_syntax.specs.declared.tree.Class.{Class}
 use Rattle.bqn_syntax.specs.declared.tree.Class.TheVariants as class
-use Rattle.bqn_syntax.specs.Plain.{Pattern, Name, Skip, Literal, ListPattern, StrandPattern, Header, Expr, Value, Train, Modifier, Use, One, Two, Part, Leaf, Elements, Merge, Paren, Block, Field, Strand, Nothing, Step, Apply, Assign, Modify, Stmt, Eval, Predicate, Export, block, BodyTree, body, Derived, derived, MaybePart, none, some, Exprs, no_exprs, and_exprs, Uses, no_uses, and_uses, Parts, no_parts, and_parts, Steps, no_steps, and_steps, Stmts, no_stmts, and_stmts, Deriveds, no_deriveds, and_deriveds}
-use Rattle.bqn_syntax.specs.Order.{How, Reads, Defines, by_arrow}
-use Rattle.bqn_syntax.specs.Exporting.{stmts_export}
-use Rattle.bqn_syntax.specs.Classes.{Calls}
-use Rattle.bqn_syntax.specs.Scope.{Seen}
-use Rattle.bqn_syntax.specs.Bodies.{BodyNames}
+use Rattle.bqn_syntax.specs.grammar.Trees.{Pattern, Name, Skip, Literal, ListPattern, StrandPattern, Header, Expr, Value, Train, Modifier, Use, One, Two, Part, Leaf, Elements, Merge, Paren, Block, Field, Strand, Nothing, Step, Apply, Assign, Modify, Stmt, Eval, Predicate, Export, block, BodyTree, body, Derived, derived, MaybePart, none, some, Exprs, no_exprs, and_exprs, Uses, no_uses, and_uses, Parts, no_parts, and_parts, Steps, no_steps, and_steps, Stmts, no_stmts, and_stmts, Deriveds, no_deriveds, and_deriveds}
+use Rattle.bqn_syntax.specs.scope.Order.{How, Reads, Defines, by_arrow}
+use Rattle.bqn_syntax.specs.blocks.Exporting.{stmts_export}
+use Rattle.bqn_syntax.specs.grammar.Classes.{Calls}
+use Rattle.bqn_syntax.specs.scope.Scope.{Seen}
+use Rattle.bqn_syntax.specs.scope.Bodies.{BodyNames}
 use Rattle.bqn_code.specs.declared.instr.Instr.{Instr}
 use Rattle.bqn_code.specs.declared.instr.Instr.TheVariants as i
 use Rattle.bqn_compile.specs.declared.count.Count.{Count}

@@ -1,11 +1,11 @@
 -- A test of all blocks of a code but the program passes where it passes for each block of a well tree.
 use Rattle.std.proofs.Common.{◌≡◌, ◌≤◌, ◌<◌, ℕ, suc, ◌+◌, ◌&&◌, Bool, true, List, [], ◌∷◌, ◌++◌, length, arith, refl, subst}
 use Rattle.bqn_syntax.specs.declared.tree.Class.{Class}
-use Rattle.bqn_syntax.specs.Plain.{Expr, Value, Train, Modifier, Use, One, Two, Part, Leaf, Elements, Merge, Paren, Block as Braces, Field, Strand, Nothing, Step, Apply, Assign, Modify, Stmt, Eval, Predicate, Export, BlockTree, block, BodyTree, body, Derived, derived, none, some, Exprs, no_exprs, and_exprs, Uses, no_uses, and_uses, Parts, no_parts, and_parts, Steps, no_steps, and_steps, Stmts, no_stmts, and_stmts, Bodies, no_bodies, and_bodies, Deriveds, no_deriveds, and_deriveds}
-use Rattle.bqn_syntax.specs.Well.{WellExpr, WellPart, WellBlock, WellSteps, WellStep, WellDerived, WellUses, WellUse, WellDeriveds, WellExprs, WellParts, WellStmts, WellStmt, WellBodies, WellBody}
-use Rattle.bqn_syntax.specs.Counting.{how_many}
-use Rattle.bqn_syntax.specs.Blocks.{plain_in}
-use Rattle.bqn_syntax.specs.Bodies.{BodyNames}
+use Rattle.bqn_syntax.specs.grammar.Trees.{Expr, Value, Train, Modifier, Use, One, Two, Part, Leaf, Elements, Merge, Paren, Block as Braces, Field, Strand, Nothing, Step, Apply, Assign, Modify, Stmt, Eval, Predicate, Export, BlockTree, block, BodyTree, body, Derived, derived, none, some, Exprs, no_exprs, and_exprs, Uses, no_uses, and_uses, Parts, no_parts, and_parts, Steps, no_steps, and_steps, Stmts, no_stmts, and_stmts, Bodies, no_bodies, and_bodies, Deriveds, no_deriveds, and_deriveds}
+use Rattle.bqn_syntax.specs.grammar.Well.{WellExpr, WellPart, WellBlock, WellSteps, WellStep, WellDerived, WellUses, WellUse, WellDeriveds, WellExprs, WellParts, WellStmts, WellStmt, WellBodies, WellBody}
+use Rattle.bqn_syntax.specs.blocks.Counting.{how_many}
+use Rattle.bqn_syntax.specs.blocks.Blocks.{plain_in}
+use Rattle.bqn_syntax.specs.scope.Bodies.{BodyNames}
 use Rattle.bqn_code.specs.declared.code.Block.{Block}
 use Rattle.bqn_compile.specs.declared.count.Count.{Count}
 use Rattle.bqn_compile.specs.Counting.{past, one_block, in_token, in_targets, in_header, in_expr, in_part, in_maybe, in_steps, in_derived, in_use, in_stmt, in_body}

@@ -3,10 +3,10 @@ use Rattle.std.proofs.Common.{◌≡◌, ℕ, suc, ◌+◌, Bool, true, false, L
 use Rattle.std.specs.List.{list_all}
 use Rattle.bqn_syntax.specs.declared.tree.Class.{Class}
 use Rattle.bqn_syntax.specs.declared.tree.Class.TheVariants as class
-use Rattle.bqn_syntax.specs.Plain.{Expr, Value, Train, Modifier, Use, One, Two, Part, Leaf, Elements, Merge, Paren, Block as Braces, Field, Strand, Nothing, Step, Apply, Assign, Modify, Stmt, Eval, Predicate, Export, BlockTree, block, BodyTree, body, Derived, derived, MaybePart, none, some, Exprs, no_exprs, and_exprs, Uses, no_uses, and_uses, Parts, no_parts, and_parts, Steps, no_steps, and_steps, Stmts, no_stmts, and_stmts, Bodies, no_bodies, and_bodies, Deriveds, no_deriveds, and_deriveds}
-use Rattle.bqn_syntax.specs.Counting.{how_many}
-use Rattle.bqn_syntax.specs.Blocks.{and_plain, plain_in}
-use Rattle.bqn_syntax.specs.Bodies.{BodyNames, Resolution}
+use Rattle.bqn_syntax.specs.grammar.Trees.{Expr, Value, Train, Modifier, Use, One, Two, Part, Leaf, Elements, Merge, Paren, Block as Braces, Field, Strand, Nothing, Step, Apply, Assign, Modify, Stmt, Eval, Predicate, Export, BlockTree, block, BodyTree, body, Derived, derived, MaybePart, none, some, Exprs, no_exprs, and_exprs, Uses, no_uses, and_uses, Parts, no_parts, and_parts, Steps, no_steps, and_steps, Stmts, no_stmts, and_stmts, Bodies, no_bodies, and_bodies, Deriveds, no_deriveds, and_deriveds}
+use Rattle.bqn_syntax.specs.blocks.Counting.{how_many}
+use Rattle.bqn_syntax.specs.blocks.Blocks.{and_plain, plain_in}
+use Rattle.bqn_syntax.specs.scope.Bodies.{BodyNames, Resolution}
 use Rattle.bqn_code.specs.declared.code.Body.{Body}
 use Rattle.bqn_code.specs.declared.code.Block.{Block}
 use Rattle.bqn_code.specs.Standing.{Standing, of_block, of_blocks, every_body}
@@ -19,7 +19,7 @@ use Rattle.bqn_compile.specs.Blocks.{bodies_code, expr_blocks, part_blocks, bloc
 use Rattle.bqn_compile.specs.Translation.{at_start, setting, program, translation}
 use Rattle.bqn_compile.proofs.verified.Tests.{both_true, all_append, all_front, all_back}
 use Rattle.bqn_compile.proofs.verified.BlockCounts.{bodies_in, Counts, NoBlocks, token_none, targets_none, header_none, many_bodies, expr_counts, part_counts, maybe_counts, steps_counts, derived_counts, use_counts, stmt_counts, body_counts}
-use Rattle.bqn_syntax.specs.Classes.{Calls, Both, body_calls, has_predicate}
+use Rattle.bqn_syntax.specs.grammar.Classes.{Calls, Both, body_calls, has_predicate}
 
 module _ (Holds : Class → (block inside number plain before : ℕ) → Count → BodyTree → Type 0) where
   -- it holds of the bodies of one block, the first of which has this number

@@ -4,9 +4,9 @@ use Rattle.std.specs.List.{list_all, list_any}
 use Rattle.std.specs.Cmp.Lexicographic.{nat_list_eq_equiv}
 use Rattle.std.proofs.lemmas.Bool.{false≢true, lt-ltb}
 use Rattle.std.proofs.lemmas.List.Folds.{list_all-map}
-use Rattle.bqn_syntax.specs.Mentions.{Named, Special, System, Inner, Mentions, no_mentions, and_mentions}
-use Rattle.bqn_syntax.specs.Scope.{name_of, same_name, has, place_of}
-use Rattle.bqn_syntax.specs.Bodies.{exports_it, at_slot, exports_of}
+use Rattle.bqn_syntax.specs.scope.Mentions.{Named, Special, System, Inner, Mentions, no_mentions, and_mentions}
+use Rattle.bqn_syntax.specs.scope.Scope.{name_of, same_name, has, place_of}
+use Rattle.bqn_syntax.specs.scope.Bodies.{exports_it, at_slot, exports_of}
 use Rattle.bqn_code.specs.Numbering.{same_name as same_spelling}
 use Rattle.bqn_code.specs.Conditions.{are_distinct}
 use Rattle.bqn_compile.specs.Pools.{name_number, or_none}

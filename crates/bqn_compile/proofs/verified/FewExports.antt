@@ -5,11 +5,11 @@ use Rattle.bqn_syntax.specs.declared.token.Kind.{Kind}
 use Rattle.bqn_syntax.specs.declared.token.Kind.TheVariants as kind
 use Rattle.bqn_syntax.specs.declared.token.Token.{Token}
 use Rattle.bqn_syntax.specs.declared.tree.Arrow.{Arrow}
-use Rattle.bqn_syntax.specs.Plain.{Pattern, Name, Skip, Literal, ListPattern, StrandPattern, Patterns, no_patterns, and_patterns, Header, Expr, Value, Train, Modifier, Use, One, Two, Part, Leaf, Elements, Merge, Paren, Block, Field, Strand, Nothing, Step, Apply, Assign, Modify, Stmt, Eval, Predicate, Export, BlockTree, block, BodyTree, body, Derived, derived, MaybePart, none, some, Exprs, no_exprs, and_exprs, Uses, no_uses, and_uses, Parts, no_parts, and_parts, Steps, no_steps, and_steps, Stmts, no_stmts, and_stmts, Bodies, no_bodies, and_bodies, Deriveds, no_deriveds, and_deriveds}
-use Rattle.bqn_syntax.specs.Order.{How, Reads, Defines, Changes, Shows, by_arrow, order_of}
-use Rattle.bqn_syntax.specs.Mentions.{Mention, Named, Special, System, Inner, Mentions, no_mentions, and_mentions, Scopes, no_scopes, and_scopes, leaf_mention, pattern_mentions, patterns_mentions, token_mentions, argument_mentions, header_mentions, target_mentions, expr_mentions, part_mentions, block_mention, maybe_mentions, steps_mentions, step_mentions, derived_mentions, uses_mentions, use_mentions, deriveds_mentions, exprs_mentions, parts_mentions, stmt_mentions, stmts_mentions, scopes_of, body_scope}
-use Rattle.bqn_syntax.specs.Scope.{Use as ScopeUse, block_scope, top_scope, names_of, name_of, has, place_of, resolved}
-use Rattle.bqn_syntax.specs.Bodies.{BodyNames, exports_it, at_slot, exports_of, body_names, of_block, inside, inside_mention, inside_block, bodies_of, Resolution, with_bodies, resolution}
+use Rattle.bqn_syntax.specs.grammar.Trees.{Pattern, Name, Skip, Literal, ListPattern, StrandPattern, Patterns, no_patterns, and_patterns, Header, Expr, Value, Train, Modifier, Use, One, Two, Part, Leaf, Elements, Merge, Paren, Block, Field, Strand, Nothing, Step, Apply, Assign, Modify, Stmt, Eval, Predicate, Export, BlockTree, block, BodyTree, body, Derived, derived, MaybePart, none, some, Exprs, no_exprs, and_exprs, Uses, no_uses, and_uses, Parts, no_parts, and_parts, Steps, no_steps, and_steps, Stmts, no_stmts, and_stmts, Bodies, no_bodies, and_bodies, Deriveds, no_deriveds, and_deriveds}
+use Rattle.bqn_syntax.specs.scope.Order.{How, Reads, Defines, Changes, Shows, by_arrow, order_of}
+use Rattle.bqn_syntax.specs.scope.Mentions.{Mention, Named, Special, System, Inner, Mentions, no_mentions, and_mentions, Scopes, no_scopes, and_scopes, leaf_mention, pattern_mentions, patterns_mentions, token_mentions, argument_mentions, header_mentions, target_mentions, expr_mentions, part_mentions, block_mention, maybe_mentions, steps_mentions, step_mentions, derived_mentions, uses_mentions, use_mentions, deriveds_mentions, exprs_mentions, parts_mentions, stmt_mentions, stmts_mentions, scopes_of, body_scope}
+use Rattle.bqn_syntax.specs.scope.Scope.{Use as ScopeUse, block_scope, top_scope, names_of, name_of, has, place_of, resolved}
+use Rattle.bqn_syntax.specs.scope.Bodies.{BodyNames, exports_it, at_slot, exports_of, body_names, of_block, inside, inside_mention, inside_block, bodies_of, Resolution, with_bodies, resolution}
 use Rattle.bqn_compile.specs.Bodies.{names_in}
 use Rattle.bqn_compile.proofs.verified.Sizes.{pattern_size, patterns_size, token_size, argument_size, header_size, targets_size, expr_size, part_size, block_size, maybe_size, steps_size, step_size, derived_size, uses_size, use_size, deriveds_size, exprs_size, parts_size, stmts_size, stmt_size, bodies_size, body_size}
 

@@ -4,7 +4,7 @@ use Rattle.std.specs.List.{list_any, position_or_len}
 use Rattle.std.proofs.lemmas.Bool.{false≢true, eqb-true, lt-ltb}
 use Rattle.std.proofs.lemmas.List.Quantifiers.{position-Some}
 use Rattle.std.proofs.lemmas.Option.{slice_get-get_or, none-some}
-use Rattle.bqn_syntax.specs.Scope.{same_name, has, place_of}
+use Rattle.bqn_syntax.specs.scope.Scope.{same_name, has, place_of}
 use Rattle.bqn_compile.proofs.verified.Tests.{or_left, or_right, both_true, left_true, right_true}
 
 -- the second list begins with the first

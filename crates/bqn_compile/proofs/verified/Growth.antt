@@ -6,12 +6,12 @@ use Rattle.bqn_base.specs.declared.refusal.Refusal.{Refusal}
 use Rattle.bqn_syntax.specs.declared.token.Kind.{Kind}
 use Rattle.bqn_syntax.specs.declared.token.Kind.TheVariants as kind
 use Rattle.bqn_syntax.specs.declared.token.Token.{Token}
-use Rattle.bqn_syntax.specs.Plain.{Pattern, Name, Skip, Literal, ListPattern, StrandPattern, Patterns, no_patterns, and_patterns}
-use Rattle.bqn_syntax.specs.Well.{IsLiteral, WellPattern, WellPatterns, WellJoined}
-use Rattle.bqn_syntax.specs.Order.{How}
-use Rattle.bqn_syntax.specs.Scope as scope
-use Rattle.bqn_syntax.specs.Scope.{has, defines, name_of}
-use Rattle.bqn_syntax.specs.Bodies.{exports_it}
+use Rattle.bqn_syntax.specs.grammar.Trees.{Pattern, Name, Skip, Literal, ListPattern, StrandPattern, Patterns, no_patterns, and_patterns}
+use Rattle.bqn_syntax.specs.grammar.Well.{IsLiteral, WellPattern, WellPatterns, WellJoined}
+use Rattle.bqn_syntax.specs.scope.Order.{How}
+use Rattle.bqn_syntax.specs.scope.Scope as scope
+use Rattle.bqn_syntax.specs.scope.Scope.{has, defines, name_of}
+use Rattle.bqn_syntax.specs.scope.Bodies.{exports_it}
 use Rattle.bqn_code.specs.declared.constant.Const.{Const}
 use Rattle.bqn_code.specs.Plain as code
 use Rattle.bqn_compile.specs.declared.count.Count.{Count}

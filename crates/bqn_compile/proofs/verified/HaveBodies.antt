@@ -1,11 +1,11 @@
 -- Each block of a well program has a body.
 use Rattle.std.proofs.Common.{◌≡◌, ℕ, suc, not, Bool, true, List, [], ◌++◌, refl}
 use Rattle.std.specs.List.{list_all}
-use Rattle.bqn_syntax.specs.Plain.{Expr, Value, Train, Modifier, Use, One, Two, Part, Leaf, Elements, Merge, Paren, Block as Braces, Field, Strand, Nothing, Step, Apply, Assign, Modify, Stmt, Eval, Predicate, Export, BlockTree, block, BodyTree, body, Derived, derived, none, some, Exprs, no_exprs, and_exprs, Uses, no_uses, and_uses, Parts, no_parts, and_parts, Steps, no_steps, and_steps, Stmts, no_stmts, and_stmts, Bodies, no_bodies, and_bodies, Deriveds, no_deriveds, and_deriveds}
-use Rattle.bqn_syntax.specs.Counting.{how_many}
-use Rattle.bqn_syntax.specs.Blocks.{plain_in}
-use Rattle.bqn_syntax.specs.Bodies.{BodyNames}
-use Rattle.bqn_syntax.specs.Well.{IsSomeBodies, WellExpr, WellPart, WellSteps, WellStep, WellDerived, WellUses, WellUse, WellDeriveds, WellExprs, WellParts, WellStmt, WellStmts, WellBody, WellBodies, WellBlock}
+use Rattle.bqn_syntax.specs.grammar.Trees.{Expr, Value, Train, Modifier, Use, One, Two, Part, Leaf, Elements, Merge, Paren, Block as Braces, Field, Strand, Nothing, Step, Apply, Assign, Modify, Stmt, Eval, Predicate, Export, BlockTree, block, BodyTree, body, Derived, derived, none, some, Exprs, no_exprs, and_exprs, Uses, no_uses, and_uses, Parts, no_parts, and_parts, Steps, no_steps, and_steps, Stmts, no_stmts, and_stmts, Bodies, no_bodies, and_bodies, Deriveds, no_deriveds, and_deriveds}
+use Rattle.bqn_syntax.specs.blocks.Counting.{how_many}
+use Rattle.bqn_syntax.specs.blocks.Blocks.{plain_in}
+use Rattle.bqn_syntax.specs.scope.Bodies.{BodyNames}
+use Rattle.bqn_syntax.specs.grammar.Well.{IsSomeBodies, WellExpr, WellPart, WellSteps, WellStep, WellDerived, WellUses, WellUse, WellDeriveds, WellExprs, WellParts, WellStmt, WellStmts, WellBody, WellBodies, WellBlock}
 use Rattle.bqn_code.specs.declared.code.Block.{Block}
 use Rattle.bqn_code.specs.Heights.{is_empty}
 use Rattle.bqn_compile.specs.declared.count.Count.{Count}

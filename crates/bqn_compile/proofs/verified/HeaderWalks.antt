@@ -9,15 +9,15 @@ use Rattle.bqn_syntax.specs.declared.token.Special.TheVariants as special
 use Rattle.bqn_syntax.specs.declared.token.Token.{Token}
 use Rattle.bqn_syntax.specs.declared.tree.Arrow.{Arrow}
 use Rattle.bqn_syntax.specs.declared.sort.Tag.{Tag}
-use Rattle.bqn_syntax.specs.Plain.{Pattern, Name, Skip, Literal, ListPattern, StrandPattern, Header, One, Two, Uses, no_uses, and_uses}
-use Rattle.bqn_syntax.specs.Sorts.{is_word}
-use Rattle.bqn_syntax.specs.Headers.{is_left, is_right}
-use Rattle.bqn_syntax.specs.Well as well
-use Rattle.bqn_syntax.specs.Well.{WellPattern, IsArgument, IsOutermost, ArgumentFits, WellHeader, HeaderFits, TargetsFit}
-use Rattle.bqn_syntax.specs.Order.{How, Defines, by_arrow}
-use Rattle.bqn_syntax.specs.Mentions.{Mention, Mentions, and_mentions, leaf_mention, token_mentions, argument_mentions, header_mentions, target_mentions}
-use Rattle.bqn_syntax.specs.Mentions as mention
-use Rattle.bqn_syntax.specs.Scope.{name_of}
+use Rattle.bqn_syntax.specs.grammar.Trees.{Pattern, Name, Skip, Literal, ListPattern, StrandPattern, Header, One, Two, Uses, no_uses, and_uses}
+use Rattle.bqn_syntax.specs.grammar.Sorts.{is_word}
+use Rattle.bqn_syntax.specs.grammar.Headers.{is_left, is_right}
+use Rattle.bqn_syntax.specs.grammar.Well as well
+use Rattle.bqn_syntax.specs.grammar.Well.{WellPattern, IsArgument, IsOutermost, ArgumentFits, WellHeader, HeaderFits, TargetsFit}
+use Rattle.bqn_syntax.specs.scope.Order.{How, Defines, by_arrow}
+use Rattle.bqn_syntax.specs.scope.Mentions.{Mention, Mentions, and_mentions, leaf_mention, token_mentions, argument_mentions, header_mentions, target_mentions}
+use Rattle.bqn_syntax.specs.scope.Mentions as mention
+use Rattle.bqn_syntax.specs.scope.Scope.{name_of}
 use Rattle.bqn_code.specs.declared.instr.Instr.{Instr}
 use Rattle.bqn_code.specs.declared.instr.Instr.TheVariants as i
 use Rattle.bqn_compile.specs.declared.count.Count.{Count}

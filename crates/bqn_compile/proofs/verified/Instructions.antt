@@ -12,11 +12,11 @@ use Rattle.bqn_syntax.specs.declared.tree.Arrow.{Arrow}
 use Rattle.bqn_syntax.specs.declared.tree.Arrow.TheVariants as arrow
 use Rattle.bqn_syntax.specs.declared.tree.Class.{Class}
 use Rattle.bqn_syntax.specs.declared.tree.Class.TheVariants as class
-use Rattle.bqn_syntax.specs.Plain.{Pattern, Name, Skip, Literal, ListPattern, StrandPattern, Expr, Value, Train, Modifier, Use, One, Two, Part, Leaf, Elements, Merge, Paren, Block as Braces, Field, Strand, Nothing, Step, Apply, Assign, Modify, Eval, Predicate, Export, block, Derived, derived, none, some, Exprs, no_exprs, and_exprs, Uses, no_uses, and_uses, Parts, no_parts, and_parts, Steps, no_steps, and_steps, Stmts, no_stmts, and_stmts, Deriveds, no_deriveds, and_deriveds}
-use Rattle.bqn_syntax.specs.Classes as seen
-use Rattle.bqn_syntax.specs.Classes.{Seen, and, has_predicate}
-use Rattle.bqn_syntax.specs.Scope as scope
-use Rattle.bqn_syntax.specs.Scope.{same_name, system_names}
+use Rattle.bqn_syntax.specs.grammar.Trees.{Pattern, Name, Skip, Literal, ListPattern, StrandPattern, Expr, Value, Train, Modifier, Use, One, Two, Part, Leaf, Elements, Merge, Paren, Block as Braces, Field, Strand, Nothing, Step, Apply, Assign, Modify, Eval, Predicate, Export, block, Derived, derived, none, some, Exprs, no_exprs, and_exprs, Uses, no_uses, and_uses, Parts, no_parts, and_parts, Steps, no_steps, and_steps, Stmts, no_stmts, and_stmts, Deriveds, no_deriveds, and_deriveds}
+use Rattle.bqn_syntax.specs.grammar.Classes as seen
+use Rattle.bqn_syntax.specs.grammar.Classes.{Seen, and, has_predicate}
+use Rattle.bqn_syntax.specs.scope.Scope as scope
+use Rattle.bqn_syntax.specs.scope.Scope.{same_name, system_names}
 use Rattle.bqn_code.specs.declared.instr.Instr.{Instr}
 use Rattle.bqn_code.specs.declared.instr.Instr.TheVariants as i
 use Rattle.bqn_compile.specs.declared.count.Count.{Count}

@@ -4,9 +4,9 @@ use Rattle.bqn_syntax.specs.declared.token.Kind.{Kind}
 use Rattle.bqn_syntax.specs.declared.token.Kind.TheVariants as kind
 use Rattle.bqn_syntax.specs.declared.token.Token.{Token}
 use Rattle.bqn_syntax.specs.declared.tree.Arrow.{Arrow}
-use Rattle.bqn_syntax.specs.Plain.{Pattern, Name, Skip, Literal, ListPattern, StrandPattern, Patterns, no_patterns, and_patterns, Header, Expr, Value, Train, Modifier, Use, One, Two, Part, Leaf, Elements, Merge, Paren, Block, Field, Strand, Nothing, Step, Apply, Assign, Modify, Stmt, Eval, Predicate, Export, BlockTree, block, body, Derived, derived, MaybePart, none, some, Exprs, no_exprs, and_exprs, Uses, no_uses, and_uses, Parts, no_parts, and_parts, Steps, no_steps, and_steps, Stmts, no_stmts, and_stmts, Bodies, no_bodies, and_bodies, Deriveds, no_deriveds, and_deriveds}
-use Rattle.bqn_syntax.specs.Order.{How, Reads, Defines, Changes, Shows, by_arrow}
-use Rattle.bqn_syntax.specs.Mentions.{Mention, Named, Special, System, Inner, Mentions, no_mentions, and_mentions, Scopes, no_scopes, and_scopes, leaf_mention, pattern_mentions, patterns_mentions, token_mentions, argument_mentions, header_mentions, target_mentions, expr_mentions, part_mentions, block_mention, maybe_mentions, steps_mentions, step_mentions, derived_mentions, uses_mentions, use_mentions, deriveds_mentions, exprs_mentions, parts_mentions, stmt_mentions, stmts_mentions, scopes_of}
+use Rattle.bqn_syntax.specs.grammar.Trees.{Pattern, Name, Skip, Literal, ListPattern, StrandPattern, Patterns, no_patterns, and_patterns, Header, Expr, Value, Train, Modifier, Use, One, Two, Part, Leaf, Elements, Merge, Paren, Block, Field, Strand, Nothing, Step, Apply, Assign, Modify, Stmt, Eval, Predicate, Export, BlockTree, block, body, Derived, derived, MaybePart, none, some, Exprs, no_exprs, and_exprs, Uses, no_uses, and_uses, Parts, no_parts, and_parts, Steps, no_steps, and_steps, Stmts, no_stmts, and_stmts, Bodies, no_bodies, and_bodies, Deriveds, no_deriveds, and_deriveds}
+use Rattle.bqn_syntax.specs.scope.Order.{How, Reads, Defines, Changes, Shows, by_arrow}
+use Rattle.bqn_syntax.specs.scope.Mentions.{Mention, Named, Special, System, Inner, Mentions, no_mentions, and_mentions, Scopes, no_scopes, and_scopes, leaf_mention, pattern_mentions, patterns_mentions, token_mentions, argument_mentions, header_mentions, target_mentions, expr_mentions, part_mentions, block_mention, maybe_mentions, steps_mentions, step_mentions, derived_mentions, uses_mentions, use_mentions, deriveds_mentions, exprs_mentions, parts_mentions, stmt_mentions, stmts_mentions, scopes_of}
 use Rattle.bqn_compile.proofs.verified.Items.{Item, Alone, Fields, Taken, Opened, Shown, EveryItem, operand_items, named_items, argument_items, header_items, targets_items, target_item, expr_items, part_items, block_items, maybe_items, steps_items, step_items, derived_items, uses_items, use_items, deriveds_items, exprs_items, parts_items, stmts_items, stmt_items, bodies_items, body_items}
 use Rattle.bqn_compile.proofs.verified.WellItems.{every-append}
 

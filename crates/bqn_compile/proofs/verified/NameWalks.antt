@@ -7,11 +7,11 @@ use Rattle.bqn_syntax.specs.declared.token.Kind.{Kind}
 use Rattle.bqn_syntax.specs.declared.token.Kind.TheVariants as kind
 use Rattle.bqn_syntax.specs.declared.token.Token.{Token}
 use Rattle.bqn_syntax.specs.declared.sort.Tag.{Tag}
-use Rattle.bqn_syntax.specs.Sorts.{is_word, is_name}
-use Rattle.bqn_syntax.specs.Order.{How, Shows}
-use Rattle.bqn_syntax.specs.Mentions.{Mention, Named, Special, System, Inner, Mentions, and_mentions, leaf_mention}
-use Rattle.bqn_syntax.specs.Scope.{Seen, Use, name_of, names_of, spelling, has, defines, stands_in_block, system_names, uses_of, named, unless}
-use Rattle.bqn_syntax.specs.Bodies.{exports_it}
+use Rattle.bqn_syntax.specs.grammar.Sorts.{is_word, is_name}
+use Rattle.bqn_syntax.specs.scope.Order.{How, Shows}
+use Rattle.bqn_syntax.specs.scope.Mentions.{Mention, Named, Special, System, Inner, Mentions, and_mentions, leaf_mention}
+use Rattle.bqn_syntax.specs.scope.Scope.{Seen, Use, name_of, names_of, spelling, has, defines, stands_in_block, system_names, uses_of, named, unless}
+use Rattle.bqn_syntax.specs.scope.Bodies.{exports_it}
 use Rattle.bqn_compile.specs.declared.count.Count.{Count}
 use Rattle.bqn_compile.specs.Counting.{nothing, past, one_use, in_kind, in_token}
 use Rattle.bqn_compile.specs.Pools.{constant_of, seen_at, seen_in}

@@ -7,11 +7,11 @@ use Rattle.bqn_base.specs.declared.place.Place.{Place}
 use Rattle.bqn_syntax.specs.declared.token.Kind.{Kind}
 use Rattle.bqn_syntax.specs.declared.token.Kind.TheVariants as kind
 use Rattle.bqn_syntax.specs.declared.token.Token.{Token}
-use Rattle.bqn_syntax.specs.Plain.{Pattern, Name, Skip, Literal, ListPattern, StrandPattern, Patterns, no_patterns, and_patterns}
-use Rattle.bqn_syntax.specs.Order.{How}
-use Rattle.bqn_syntax.specs.Scope as scope
-use Rattle.bqn_syntax.specs.Scope.{has, defines, name_of}
-use Rattle.bqn_syntax.specs.Bodies.{exports_it}
+use Rattle.bqn_syntax.specs.grammar.Trees.{Pattern, Name, Skip, Literal, ListPattern, StrandPattern, Patterns, no_patterns, and_patterns}
+use Rattle.bqn_syntax.specs.scope.Order.{How}
+use Rattle.bqn_syntax.specs.scope.Scope as scope
+use Rattle.bqn_syntax.specs.scope.Scope.{has, defines, name_of}
+use Rattle.bqn_syntax.specs.scope.Bodies.{exports_it}
 use Rattle.bqn_code.specs.declared.constant.Const.{Const}
 use Rattle.bqn_compile.specs.Pools.{constant_of, place_among, seen_at}
 use Rattle.bqn_compile.specs.Gathering as gather

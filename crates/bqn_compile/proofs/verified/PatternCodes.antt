@@ -5,16 +5,16 @@ use Rattle.std.proofs.lemmas.List.{length-append}
 use Rattle.bqn_syntax.specs.declared.token.Kind.{Kind}
 use Rattle.bqn_syntax.specs.declared.token.Kind.TheVariants as kind
 use Rattle.bqn_syntax.specs.declared.token.Token.{Token}
-use Rattle.bqn_syntax.specs.Sorts.{is_word}
-use Rattle.bqn_syntax.specs.Plain as tree
-use Rattle.bqn_syntax.specs.Plain.{Name, StrandPattern, no_patterns, and_patterns}
-use Rattle.bqn_syntax.specs.Well.{IsNoStrand, WellPattern, WellPatterns, WellJoined, pattern_depth, patterns_depth}
-use Rattle.bqn_syntax.specs.Order.{How, Reads, Defines, Exports, Changes, Shows}
-use Rattle.bqn_syntax.specs.Scope.{Seen, Use, has, name_of, spelling}
+use Rattle.bqn_syntax.specs.grammar.Sorts.{is_word}
+use Rattle.bqn_syntax.specs.grammar.Trees as tree
+use Rattle.bqn_syntax.specs.grammar.Trees.{Name, StrandPattern, no_patterns, and_patterns}
+use Rattle.bqn_syntax.specs.grammar.Well.{IsNoStrand, WellPattern, WellPatterns, WellJoined, pattern_depth, patterns_depth}
+use Rattle.bqn_syntax.specs.scope.Order.{How, Reads, Defines, Exports, Changes, Shows}
+use Rattle.bqn_syntax.specs.scope.Scope.{Seen, Use, has, name_of, spelling}
 use Rattle.bqn_code.specs.declared.constant.Const.{Const}
 use Rattle.bqn_code.specs.declared.constant.Const.TheVariants as const
 use Rattle.bqn_code.specs.Plain.{Pattern, Skip, Code, patterns}
-use Rattle.bqn_code.specs.Patterns.{parts}
+use Rattle.bqn_code.specs.Plain.{parts}
 use Rattle.bqn_code.specs.Conditions.{leaves, all_leaves, leaf_constant_is_there, leaf_name_is_there, is_no_literal, nesting, all_nesting, is_few, lists_are_few, all_lists_are_few}
 use Rattle.bqn_compile.specs.Counting.{in_leaves}
 use Rattle.bqn_compile.specs.Pools.{constant_of, constant_number, name_number, seen_at}

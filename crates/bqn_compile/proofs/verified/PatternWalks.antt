@@ -8,12 +8,12 @@ use Rattle.bqn_syntax.specs.declared.token.Token.{Token}
 use Rattle.bqn_syntax.specs.declared.tree.Arrow.{Arrow}
 use Rattle.bqn_syntax.specs.declared.tree.Arrow.TheVariants as arrow
 use Rattle.bqn_syntax.specs.declared.sort.Tag.TheVariants as tag
-use Rattle.bqn_syntax.specs.Plain.{Pattern, Name, Skip, Literal, ListPattern, StrandPattern, Patterns, no_patterns, and_patterns}
-use Rattle.bqn_syntax.specs.Sorts.{is_word}
-use Rattle.bqn_syntax.specs.Well.{WellPattern, WellPatterns, WellJoined, IsLiteral, IsTarget}
-use Rattle.bqn_syntax.specs.Order.{How, Defines, Exports, Changes, Shows, by_arrow}
-use Rattle.bqn_syntax.specs.Mentions.{Named, Mentions, leaf_mention, pattern_mentions, patterns_mentions}
-use Rattle.bqn_syntax.specs.Scope.{Seen, name_of, spelling, defines}
+use Rattle.bqn_syntax.specs.grammar.Trees.{Pattern, Name, Skip, Literal, ListPattern, StrandPattern, Patterns, no_patterns, and_patterns}
+use Rattle.bqn_syntax.specs.grammar.Sorts.{is_word}
+use Rattle.bqn_syntax.specs.grammar.Well.{WellPattern, WellPatterns, WellJoined, IsLiteral, IsTarget}
+use Rattle.bqn_syntax.specs.scope.Order.{How, Defines, Exports, Changes, Shows, by_arrow}
+use Rattle.bqn_syntax.specs.scope.Mentions.{Named, Mentions, leaf_mention, pattern_mentions, patterns_mentions}
+use Rattle.bqn_syntax.specs.scope.Scope.{Seen, name_of, spelling, defines}
 use Rattle.bqn_code.specs.declared.constant.Const.{Const}
 use Rattle.bqn_code.specs.declared.instr.Instr.TheVariants as i
 use Rattle.bqn_code.specs.Plain as code

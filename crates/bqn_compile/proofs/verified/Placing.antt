@@ -5,11 +5,11 @@ use Rattle.bqn_syntax.specs.declared.token.Kind.{Kind}
 use Rattle.bqn_syntax.specs.declared.token.Kind.TheVariants as kind
 use Rattle.bqn_syntax.specs.declared.token.Token.{Token}
 use Rattle.bqn_syntax.specs.declared.tree.Arrow.{Arrow}
-use Rattle.bqn_syntax.specs.Leads.{or_else, stmt_lead, header_lead, at_start, derived_lead, deriveds_lead}
-use Rattle.bqn_syntax.specs.Plain.{Pattern, Name, Skip, Literal, ListPattern, StrandPattern, Header, Eval, Predicate, Export, Stmts, no_stmts, and_stmts, Expr, Value, Train, Modifier, Use, One, Two, Part, Leaf, Elements, Merge, Paren, Block as Braces, Field, Strand, Nothing, Step, Apply, Assign, Modify, block, Derived, derived, none, some, Exprs, no_exprs, and_exprs, Uses, no_uses, and_uses, Parts, no_parts, and_parts, Steps, no_steps, and_steps, Deriveds, no_deriveds, and_deriveds}
-use Rattle.bqn_syntax.specs.Exporting.{stmts_export}
-use Rattle.bqn_syntax.specs.Scope as scope
-use Rattle.bqn_syntax.specs.Scope.{Seen}
+use Rattle.bqn_syntax.specs.blocks.Leads.{or_else, stmt_lead, header_lead, at_start, derived_lead, deriveds_lead}
+use Rattle.bqn_syntax.specs.grammar.Trees.{Pattern, Name, Skip, Literal, ListPattern, StrandPattern, Header, Eval, Predicate, Export, Stmts, no_stmts, and_stmts, Expr, Value, Train, Modifier, Use, One, Two, Part, Leaf, Elements, Merge, Paren, Block as Braces, Field, Strand, Nothing, Step, Apply, Assign, Modify, block, Derived, derived, none, some, Exprs, no_exprs, and_exprs, Uses, no_uses, and_uses, Parts, no_parts, and_parts, Steps, no_steps, and_steps, Deriveds, no_deriveds, and_deriveds}
+use Rattle.bqn_syntax.specs.blocks.Exporting.{stmts_export}
+use Rattle.bqn_syntax.specs.scope.Scope as scope
+use Rattle.bqn_syntax.specs.scope.Scope.{Seen}
 use Rattle.bqn_code.specs.declared.instr.Instr.{Instr}
 use Rattle.bqn_code.specs.declared.instr.Instr.TheVariants as i
 use Rattle.bqn_compile.specs.declared.count.Count.{Count}

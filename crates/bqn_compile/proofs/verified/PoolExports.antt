@@ -5,11 +5,11 @@ use Rattle.std.proofs.lemmas.Bool.{lt-ltb}
 use Rattle.bqn_syntax.specs.declared.token.Kind.{Kind}
 use Rattle.bqn_syntax.specs.declared.token.Kind.TheVariants as kind
 use Rattle.bqn_syntax.specs.declared.token.Token.{Token}
-use Rattle.bqn_syntax.specs.Plain.{Pattern, Name, Skip, Literal, ListPattern, StrandPattern, Patterns, no_patterns, and_patterns, Stmts}
-use Rattle.bqn_syntax.specs.Order.{How, Shows}
-use Rattle.bqn_syntax.specs.Mentions.{no_mentions, stmts_mentions}
-use Rattle.bqn_syntax.specs.Scope.{has, name_of, spelling}
-use Rattle.bqn_syntax.specs.Bodies.{BodyNames, Resolution, exports_it, resolution}
+use Rattle.bqn_syntax.specs.grammar.Trees.{Pattern, Name, Skip, Literal, ListPattern, StrandPattern, Patterns, no_patterns, and_patterns, Stmts}
+use Rattle.bqn_syntax.specs.scope.Order.{How, Shows}
+use Rattle.bqn_syntax.specs.scope.Mentions.{no_mentions, stmts_mentions}
+use Rattle.bqn_syntax.specs.scope.Scope.{has, name_of, spelling}
+use Rattle.bqn_syntax.specs.scope.Bodies.{BodyNames, Resolution, exports_it, resolution}
 use Rattle.bqn_code.specs.declared.constant.Const.{Const}
 use Rattle.bqn_compile.specs.declared.count.Count.{Count}
 use Rattle.bqn_compile.specs.Pools.{name_number}

@@ -5,13 +5,13 @@ use Rattle.std.proofs.lemmas.Bool.{lt-ltb}
 use Rattle.bqn_syntax.specs.declared.token.Kind.{Kind}
 use Rattle.bqn_syntax.specs.declared.token.Kind.TheVariants as kind
 use Rattle.bqn_syntax.specs.declared.token.Token.{Token}
-use Rattle.bqn_syntax.specs.Sorts.{is_word}
-use Rattle.bqn_syntax.specs.Plain.{Pattern, Name, Skip, Literal, ListPattern, StrandPattern, Patterns, no_patterns, and_patterns, Stmts}
-use Rattle.bqn_syntax.specs.Spells.{Gap, stmts_signs}
-use Rattle.bqn_syntax.specs.Well.{WellPattern, WellPatterns, WellJoined, AreTwo}
-use Rattle.bqn_syntax.specs.Scope as scope
-use Rattle.bqn_syntax.specs.Scope.{name_of, spelling}
-use Rattle.bqn_syntax.specs.Bodies.{Resolution}
+use Rattle.bqn_syntax.specs.grammar.Sorts.{is_word}
+use Rattle.bqn_syntax.specs.grammar.Trees.{Pattern, Name, Skip, Literal, ListPattern, StrandPattern, Patterns, no_patterns, and_patterns, Stmts}
+use Rattle.bqn_syntax.specs.grammar.Spells.{Gap, stmts_signs}
+use Rattle.bqn_syntax.specs.grammar.Well.{WellPattern, WellPatterns, WellJoined, AreTwo}
+use Rattle.bqn_syntax.specs.scope.Scope as scope
+use Rattle.bqn_syntax.specs.scope.Scope.{name_of, spelling}
+use Rattle.bqn_syntax.specs.scope.Bodies.{Resolution}
 use Rattle.bqn_code.specs.Plain as code
 use Rattle.bqn_code.specs.Conditions.{begins_with_letter, is_few, text_is_short}
 use Rattle.bqn_compile.specs.declared.count.Count.{Count}

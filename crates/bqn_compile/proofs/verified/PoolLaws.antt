@@ -3,10 +3,10 @@ use Rattle.std.proofs.Common.{◌≡◌, ◌≤◌, ◌^◌, ℕ, Bool, true, le
 use Rattle.std.specs.List.{list_all}
 use Rattle.std.proofs.lemmas.Bool.{lt-ltb, le-leb}
 use Rattle.bqn_syntax.specs.declared.token.Token.{Token}
-use Rattle.bqn_syntax.specs.Plain.{Stmts, BodyTree, body}
-use Rattle.bqn_syntax.specs.Plain as tree
-use Rattle.bqn_syntax.specs.Order.{How}
-use Rattle.bqn_syntax.specs.Bodies.{Resolution}
+use Rattle.bqn_syntax.specs.grammar.Trees.{Stmts, BodyTree, body}
+use Rattle.bqn_syntax.specs.grammar.Trees as tree
+use Rattle.bqn_syntax.specs.scope.Order.{How}
+use Rattle.bqn_syntax.specs.scope.Bodies.{Resolution}
 use Rattle.bqn_code.specs.declared.instr.Instr.{Instr}
 use Rattle.bqn_code.specs.Plain.{Pattern, Code}
 use Rattle.bqn_code.specs.Standing.{every_body, every_instr}

@@ -2,11 +2,11 @@
 use Rattle.std.proofs.Common.{◌≡◌, ◌+◌, if◌then◌else◌, ℕ, zero, suc, Bool, true, false, List, [], ◌∷◌, ◌++◌, length, map, slice_get, Option, Some, None, Result, Ok, Err, refl, sym, ap, ◌∙◌}
 use Rattle.std.specs.List.{list_all}
 use Rattle.bqn_base.specs.declared.refusal.Refusal.{Refusal}
-use Rattle.bqn_syntax.specs.Plain.{Stmts}
-use Rattle.bqn_syntax.specs.Order.{order_of}
-use Rattle.bqn_syntax.specs.Mentions.{Mention, Named, Special, System, Inner, Mentions, no_mentions, and_mentions, Scopes, no_scopes, and_scopes, stmts_mentions}
-use Rattle.bqn_syntax.specs.Scope.{Use, block_scope, top_scope, names_of, name_of, has, place_of, resolved}
-use Rattle.bqn_syntax.specs.Bodies.{BodyNames, Resolution, exports_it, at_slot, exports_of, body_names, of_block, inside, inside_mention, inside_block, bodies_of, with_bodies, resolution}
+use Rattle.bqn_syntax.specs.grammar.Trees.{Stmts}
+use Rattle.bqn_syntax.specs.scope.Order.{order_of}
+use Rattle.bqn_syntax.specs.scope.Mentions.{Mention, Named, Special, System, Inner, Mentions, no_mentions, and_mentions, Scopes, no_scopes, and_scopes, stmts_mentions}
+use Rattle.bqn_syntax.specs.scope.Scope.{Use, block_scope, top_scope, names_of, name_of, has, place_of, resolved}
+use Rattle.bqn_syntax.specs.scope.Bodies.{BodyNames, Resolution, exports_it, at_slot, exports_of, body_names, of_block, inside, inside_mention, inside_block, bodies_of, with_bodies, resolution}
 use Rattle.bqn_compile.proofs.verified.Tests.{both_true, left_true, right_true, all_append}
 use Rattle.bqn_compile.proofs.verified.MentionedItems.{EveryMention, MentionHolds, InScopes}
 

@@ -4,10 +4,10 @@ use Rattle.std.proofs.lemmas.Bool.{false≢true}
 use Rattle.std.proofs.lemmas.Option.{none-some}
 use Rattle.bqn_base.specs.declared.refusal.Refusal.{Refusal}
 use Rattle.bqn_syntax.specs.declared.token.Token.{Token}
-use Rattle.bqn_syntax.specs.Order.{How, Reads, Defines, Exports, Changes, Shows}
-use Rattle.bqn_syntax.specs.Mentions.{Mention, Named, Special, System, Inner, Mentions, no_mentions, and_mentions, Scopes, no_scopes, and_scopes}
-use Rattle.bqn_syntax.specs.Scope.{Scope, Seen, Use, name_of, names_of, same_name, has, place_of, sees, or_outward, defines, definitions, named, read, define, used, unless, and_on, uses_of, uses_at, uses_inside, block_scope}
-use Rattle.bqn_syntax.specs.Bodies.{BodyNames, of_block, inside, inside_mention, inside_block}
+use Rattle.bqn_syntax.specs.scope.Order.{How, Reads, Defines, Exports, Changes, Shows}
+use Rattle.bqn_syntax.specs.scope.Mentions.{Mention, Named, Special, System, Inner, Mentions, no_mentions, and_mentions, Scopes, no_scopes, and_scopes}
+use Rattle.bqn_syntax.specs.scope.Scope.{Scope, Seen, Use, name_of, names_of, same_name, has, place_of, sees, or_outward, defines, definitions, named, read, define, used, unless, and_on, uses_of, uses_at, uses_inside, block_scope}
+use Rattle.bqn_syntax.specs.scope.Bodies.{BodyNames, of_block, inside, inside_mention, inside_block}
 use Rattle.bqn_compile.proofs.verified.Fronts.{Front, front_same, front_more, front_trans, front_equal, some_same, same_itself, by_either, placed, place_below, same_equal}
 use Rattle.bqn_compile.proofs.verified.Tests.{or_left, or_right}
 

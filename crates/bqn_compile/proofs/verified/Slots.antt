@@ -5,12 +5,12 @@ use Rattle.std.proofs.lemmas.Bool.{eqb-true}
 use Rattle.std.proofs.lemmas.Option.{none-some}
 use Rattle.bqn_base.specs.declared.refusal.Refusal.{Refusal}
 use Rattle.bqn_syntax.specs.declared.tree.Class.{Class}
-use Rattle.bqn_syntax.specs.Plain.{Stmts, BodyTree, body}
-use Rattle.bqn_syntax.specs.Order.{order_of}
-use Rattle.bqn_syntax.specs.Mentions.{Mentions, no_mentions, stmts_mentions}
-use Rattle.bqn_syntax.specs.Scope.{Scope, Use, top_scope, names_of, name_of, definitions, resolved}
-use Rattle.bqn_syntax.specs.Bodies.{BodyNames, body_names, bodies_of, Resolution, resolution, with_bodies}
-use Rattle.bqn_syntax.specs.Well.{WellStmts}
+use Rattle.bqn_syntax.specs.grammar.Trees.{Stmts, BodyTree, body}
+use Rattle.bqn_syntax.specs.scope.Order.{order_of}
+use Rattle.bqn_syntax.specs.scope.Mentions.{Mentions, no_mentions, stmts_mentions}
+use Rattle.bqn_syntax.specs.scope.Scope.{Scope, Use, top_scope, names_of, name_of, definitions, resolved}
+use Rattle.bqn_syntax.specs.scope.Bodies.{BodyNames, body_names, bodies_of, Resolution, resolution, with_bodies}
+use Rattle.bqn_syntax.specs.grammar.Well.{WellStmts}
 use Rattle.bqn_code.specs.declared.code.Body.{Body}
 use Rattle.bqn_code.specs.declared.code.Block.{Block}
 use Rattle.bqn_syntax.specs.declared.token.Token.{Token}

@@ -7,14 +7,14 @@ use Rattle.bqn_syntax.specs.declared.token.Kind.{Kind}
 use Rattle.bqn_syntax.specs.declared.token.Kind.TheVariants as kind
 use Rattle.bqn_syntax.specs.declared.token.Token.{Token}
 use Rattle.bqn_syntax.specs.declared.tree.Arrow.{Arrow}
-use Rattle.bqn_syntax.specs.Plain.{Pattern, Name, Skip, Literal, ListPattern, StrandPattern, Patterns, no_patterns, and_patterns, Expr, Value, Train, Modifier, Use, One, Two, Part, Leaf, Elements, Merge, Paren, Block as Braces, Field, Strand, Nothing, Step, Apply, Assign, Modify, Stmt, Eval, Predicate, Export, block, Derived, derived, MaybePart, none, some, Exprs, no_exprs, and_exprs, Uses, no_uses, and_uses, Parts, no_parts, and_parts, Steps, no_steps, and_steps, Stmts, no_stmts, and_stmts, Deriveds, no_deriveds, and_deriveds}
-use Rattle.bqn_syntax.specs.Classes as seen
-use Rattle.bqn_syntax.specs.Classes.{Seen, and, nothing}
-use Rattle.bqn_syntax.specs.Order.{How, Reads, Changes, Shows, by_arrow, order_of}
-use Rattle.bqn_syntax.specs.Mentions.{Mention, Named, Special, System, Inner, Mentions, no_mentions, and_mentions, leaf_mention, pattern_mentions, patterns_mentions, target_mentions, expr_mentions, part_mentions, maybe_mentions, steps_mentions, step_mentions, derived_mentions, uses_mentions, use_mentions, deriveds_mentions, exprs_mentions, parts_mentions, stmt_mentions, stmts_mentions, scopes_of}
-use Rattle.bqn_syntax.specs.Scope as scope
-use Rattle.bqn_syntax.specs.Scope.{Scope, top_scope, stands_in_block, and_on, unless, uses_of, uses_at, resolved}
-use Rattle.bqn_syntax.specs.Bodies.{BodyNames, Resolution, with_bodies, bodies_of, resolution}
+use Rattle.bqn_syntax.specs.grammar.Trees.{Pattern, Name, Skip, Literal, ListPattern, StrandPattern, Patterns, no_patterns, and_patterns, Expr, Value, Train, Modifier, Use, One, Two, Part, Leaf, Elements, Merge, Paren, Block as Braces, Field, Strand, Nothing, Step, Apply, Assign, Modify, Stmt, Eval, Predicate, Export, block, Derived, derived, MaybePart, none, some, Exprs, no_exprs, and_exprs, Uses, no_uses, and_uses, Parts, no_parts, and_parts, Steps, no_steps, and_steps, Stmts, no_stmts, and_stmts, Deriveds, no_deriveds, and_deriveds}
+use Rattle.bqn_syntax.specs.grammar.Classes as seen
+use Rattle.bqn_syntax.specs.grammar.Classes.{Seen, and, nothing}
+use Rattle.bqn_syntax.specs.scope.Order.{How, Reads, Changes, Shows, by_arrow, order_of}
+use Rattle.bqn_syntax.specs.scope.Mentions.{Mention, Named, Special, System, Inner, Mentions, no_mentions, and_mentions, leaf_mention, pattern_mentions, patterns_mentions, target_mentions, expr_mentions, part_mentions, maybe_mentions, steps_mentions, step_mentions, derived_mentions, uses_mentions, use_mentions, deriveds_mentions, exprs_mentions, parts_mentions, stmt_mentions, stmts_mentions, scopes_of}
+use Rattle.bqn_syntax.specs.scope.Scope as scope
+use Rattle.bqn_syntax.specs.scope.Scope.{Scope, top_scope, stands_in_block, and_on, unless, uses_of, uses_at, resolved}
+use Rattle.bqn_syntax.specs.scope.Bodies.{BodyNames, Resolution, with_bodies, bodies_of, resolution}
 
 no_error : {A : Type 0} {X : Type 0} {e : Refusal} {u : X} → Err e ≡ Ok u → A
 no_error {X = X} p = absurd (subst (λ (o : Result X Refusal). elim o as (λ z. Type 0) [ Ok x ↦ ⊥ | Err r ↦ Unit {0} ]) p tt)

@@ -6,11 +6,11 @@ use Rattle.bqn_syntax.specs.declared.token.Kind.{Kind}
 use Rattle.bqn_syntax.specs.declared.token.Kind.TheVariants as kind
 use Rattle.bqn_syntax.specs.declared.token.Token.{Token}
 use Rattle.bqn_syntax.specs.declared.tree.Arrow.{Arrow}
-use Rattle.bqn_syntax.specs.Plain.{Pattern, Name, Skip, Literal, ListPattern, StrandPattern, Patterns, no_patterns, and_patterns, Header, Expr, Value, Train, Modifier, Use, One, Two, Part, Leaf, Elements, Merge, Paren, Block, Field, Strand, Nothing, Step, Apply, Assign, Modify, Stmt, Eval, Predicate, Export, BlockTree, block, BodyTree, body, Derived, derived, MaybePart, none, some, Exprs, no_exprs, and_exprs, Uses, no_uses, and_uses, Parts, no_parts, and_parts, Steps, no_steps, and_steps, Stmts, no_stmts, and_stmts, Bodies, no_bodies, and_bodies, Deriveds, no_deriveds, and_deriveds}
-use Rattle.bqn_syntax.specs.Order.{How, Reads, Defines, Changes, by_arrow}
-use Rattle.bqn_syntax.specs.Counting.{how_many}
-use Rattle.bqn_syntax.specs.Classes.{is_predicate}
-use Rattle.bqn_syntax.specs.Spells.{Sign, Exact, Mark, Apart, Gap, Fits, done, exact, mark, apart, one_more, no_more, arrow_code, mark_at, pattern_signs, listed_signs, listed_more, joined_signs, joined_more, token_signs, argument_signs, header_signs, target_signs, name_signs, expr_signs, part_signs, maybe_signs, steps_signs, step_signs, derived_signs, uses_signs, use_signs, deriveds_signs, exprs_signs, exprs_more, parts_signs, parts_more, stmt_signs, stmts_signs, body_signs, bodies_signs, bodies_more, block_signs}
+use Rattle.bqn_syntax.specs.grammar.Trees.{Pattern, Name, Skip, Literal, ListPattern, StrandPattern, Patterns, no_patterns, and_patterns, Header, Expr, Value, Train, Modifier, Use, One, Two, Part, Leaf, Elements, Merge, Paren, Block, Field, Strand, Nothing, Step, Apply, Assign, Modify, Stmt, Eval, Predicate, Export, BlockTree, block, BodyTree, body, Derived, derived, MaybePart, none, some, Exprs, no_exprs, and_exprs, Uses, no_uses, and_uses, Parts, no_parts, and_parts, Steps, no_steps, and_steps, Stmts, no_stmts, and_stmts, Bodies, no_bodies, and_bodies, Deriveds, no_deriveds, and_deriveds}
+use Rattle.bqn_syntax.specs.scope.Order.{How, Reads, Defines, Changes, by_arrow}
+use Rattle.bqn_syntax.specs.blocks.Counting.{how_many}
+use Rattle.bqn_syntax.specs.grammar.Classes.{is_predicate}
+use Rattle.bqn_syntax.specs.grammar.Spells.{Sign, Exact, Mark, Apart, Gap, Fits, done, exact, mark, apart, one_more, no_more, arrow_code, mark_at, pattern_signs, listed_signs, listed_more, joined_signs, joined_more, token_signs, argument_signs, header_signs, target_signs, name_signs, expr_signs, part_signs, maybe_signs, steps_signs, step_signs, derived_signs, uses_signs, use_signs, deriveds_signs, exprs_signs, exprs_more, parts_signs, parts_more, stmt_signs, stmts_signs, body_signs, bodies_signs, bodies_more, block_signs}
 use Rattle.bqn_compile.proofs.verified.Items.{Item, Alone, Fields, Taken, Opened, Shown, EveryItem, operand_items, named_items, argument_items, header_items, targets_items, target_item, expr_items, part_items, block_items, maybe_items, steps_items, step_items, derived_items, uses_items, use_items, deriveds_items, exprs_items, parts_items, stmts_items, stmt_items, bodies_items, body_items}
 use Rattle.bqn_compile.proofs.verified.WellItems.{every-append}
 

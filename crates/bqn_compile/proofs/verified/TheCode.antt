@@ -1,8 +1,8 @@
 -- The code of a tree is its translation with the pools that are gathered from it.
 use Rattle.std.proofs.Common.{◌≡◌, Result, Ok, Err, refl, ap, subst}
 use Rattle.bqn_base.specs.declared.refusal.Refusal.{Refusal}
-use Rattle.bqn_syntax.specs.Plain.{Stmts}
-use Rattle.bqn_syntax.specs.Bodies.{Resolution}
+use Rattle.bqn_syntax.specs.grammar.Trees.{Stmts}
+use Rattle.bqn_syntax.specs.scope.Bodies.{Resolution}
 use Rattle.bqn_code.specs.Plain.{Code}
 use Rattle.bqn_compile.specs.Gathering.{Gathered, the_most, gathered}
 use Rattle.bqn_compile.specs.Translation.{translation, with_pools, translated}

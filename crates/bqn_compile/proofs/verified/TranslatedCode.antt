@@ -2,8 +2,8 @@
 use Rattle.std.proofs.Common.{◌≡◌, ℕ, List, Result, Ok, Err, subst}
 use Rattle.std.specs.Prelude.{IfOk}
 use Rattle.bqn_syntax.specs.declared.token.Token.{Token}
-use Rattle.bqn_syntax.specs.Plain.{Stmts}
-use Rattle.bqn_syntax.specs.Bodies.{Resolution}
+use Rattle.bqn_syntax.specs.grammar.Trees.{Stmts}
+use Rattle.bqn_syntax.specs.scope.Bodies.{Resolution}
 use Rattle.bqn_code.specs.declared.code.Code.{Code as CodeCode}
 use Rattle.bqn_code.specs.Plain.{code_of}
 use Rattle.bqn_code.specs.Verified.{Verified}

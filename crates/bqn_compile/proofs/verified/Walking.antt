@@ -4,11 +4,11 @@ use Rattle.std.specs.List.{list_all}
 use Rattle.std.proofs.lemmas.Bool.{lt-ltb}
 use Rattle.bqn_base.specs.declared.place.Place.{Place}
 use Rattle.bqn_base.specs.declared.refusal.Refusal.{Refusal}
-use Rattle.bqn_syntax.specs.Plain.{Stmts}
-use Rattle.bqn_syntax.specs.Order.{How}
-use Rattle.bqn_syntax.specs.Mentions.{Named, Mentions, no_mentions, and_mentions}
-use Rattle.bqn_syntax.specs.Scope.{Scope, Seen, Use, name_of, names_of, has, defines, uses_of}
-use Rattle.bqn_syntax.specs.Bodies.{BodyNames, Resolution, exports_it, inside}
+use Rattle.bqn_syntax.specs.grammar.Trees.{Stmts}
+use Rattle.bqn_syntax.specs.scope.Order.{How}
+use Rattle.bqn_syntax.specs.scope.Mentions.{Named, Mentions, no_mentions, and_mentions}
+use Rattle.bqn_syntax.specs.scope.Scope.{Scope, Seen, Use, name_of, names_of, has, defines, uses_of}
+use Rattle.bqn_syntax.specs.scope.Bodies.{BodyNames, Resolution, exports_it, inside}
 use Rattle.bqn_code.specs.declared.constant.Const.{Const}
 use Rattle.bqn_code.specs.declared.instr.Instr.{Instr}
 use Rattle.bqn_code.specs.Plain.{Code}

@@ -6,11 +6,11 @@ use Rattle.bqn_syntax.specs.declared.token.Kind.TheVariants as kind
 use Rattle.bqn_syntax.specs.declared.token.Token.{Token}
 use Rattle.bqn_syntax.specs.declared.tree.Arrow.{Arrow}
 use Rattle.bqn_syntax.specs.declared.sort.Tag.TheVariants as tag
-use Rattle.bqn_syntax.specs.Sorts.{is_word, is_name}
-use Rattle.bqn_syntax.specs.Headers.{is_left, is_right}
-use Rattle.bqn_syntax.specs.Plain.{Pattern, Name, Skip, Literal, ListPattern, StrandPattern, Header, Expr, Value, Train, Modifier, Use, One, Two, Part, Leaf, Elements, Merge, Paren, Block, Field, Strand, Nothing, Step, Apply, Assign, Modify, Stmt, Eval, Predicate, Export, BlockTree, block, BodyTree, body, Derived, derived, none, some, Exprs, no_exprs, and_exprs, Uses, no_uses, and_uses, Parts, no_parts, and_parts, Steps, no_steps, and_steps, Stmts, no_stmts, and_stmts, Bodies, no_bodies, and_bodies, Deriveds, no_deriveds, and_deriveds}
-use Rattle.bqn_syntax.specs.Order.{How, by_arrow}
-use Rattle.bqn_syntax.specs.Well.{WellPattern, special, pattern, ArgumentFits, HeaderFits, NamesFit, WellExpr, WellPart, WellSteps, WellStep, WellDerived, WellUses, WellUse, WellDeriveds, WellExprs, WellParts, WellStmt, WellStmts, WellBody, WellBodies, WellBlock, Well, pattern_depth, argument_depth, header_depth, expr_depth, part_depth, steps_depth, step_depth, derived_depth, uses_depth, use_depth, deriveds_depth, exprs_depth, parts_depth, stmt_depth, stmts_depth, body_depth, bodies_depth, block_depth}
+use Rattle.bqn_syntax.specs.grammar.Sorts.{is_word, is_name}
+use Rattle.bqn_syntax.specs.grammar.Headers.{is_left, is_right}
+use Rattle.bqn_syntax.specs.grammar.Trees.{Pattern, Name, Skip, Literal, ListPattern, StrandPattern, Header, Expr, Value, Train, Modifier, Use, One, Two, Part, Leaf, Elements, Merge, Paren, Block, Field, Strand, Nothing, Step, Apply, Assign, Modify, Stmt, Eval, Predicate, Export, BlockTree, block, BodyTree, body, Derived, derived, none, some, Exprs, no_exprs, and_exprs, Uses, no_uses, and_uses, Parts, no_parts, and_parts, Steps, no_steps, and_steps, Stmts, no_stmts, and_stmts, Bodies, no_bodies, and_bodies, Deriveds, no_deriveds, and_deriveds}
+use Rattle.bqn_syntax.specs.scope.Order.{How, by_arrow}
+use Rattle.bqn_syntax.specs.grammar.Well.{WellPattern, special, pattern, ArgumentFits, HeaderFits, NamesFit, WellExpr, WellPart, WellSteps, WellStep, WellDerived, WellUses, WellUse, WellDeriveds, WellExprs, WellParts, WellStmt, WellStmts, WellBody, WellBodies, WellBlock, Well, pattern_depth, argument_depth, header_depth, expr_depth, part_depth, steps_depth, step_depth, derived_depth, uses_depth, use_depth, deriveds_depth, exprs_depth, parts_depth, stmt_depth, stmts_depth, body_depth, bodies_depth, block_depth}
 use Rattle.bqn_compile.proofs.verified.Items.{Item, Fields, WellTaken, AreWords, WellItem, EveryItem, operand_items, named_items, argument_items, header_items, targets_items, target_item, expr_items, part_items, block_items, steps_items, step_items, derived_items, uses_items, use_items, deriveds_items, exprs_items, parts_items, stmts_items, stmt_items, bodies_items, body_items}
 
 pub every-append : (P : Item → Type 0) (xs ys : List Item) → EveryItem P xs → EveryItem P ys → EveryItem P (xs ++ ys)

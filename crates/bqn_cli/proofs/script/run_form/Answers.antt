@@ -1,6 +1,6 @@
 -- The code of a source misses no operand.
-use Rattle.bqn_syntax.specs.Form.{form_of}
-use Rattle.bqn_syntax.specs.Plain.{tree_of}
+use Rattle.bqn_machine.specs.Form.{form_of}
+use Rattle.bqn_syntax.specs.grammar.Trees.{tree_of}
 use Rattle.bqn_cli.proofs.Ended.{compiles-some}
 use Rattle.bqn_cli.proofs.script.run_form.Goals as goal
 

@@ -1,5 +1,5 @@
 use Rattle.std.proofs.Common.{◌∷◌, [], ◌++◌, List, map, ap, ◌∙◌}
-use Rattle.bqn_syntax.specs.Plain.{stmt_of, stmts}
+use Rattle.bqn_syntax.specs.grammar.Trees.{stmt_of, stmts}
 use Rattle.bqn_scope.specs.Numbering.{body_shown}
 use Rattle.bqn_code.specs.declared.code.Body.{Body}
 use Rattle.bqn_compile.specs.Shown.{setting_shown}

@@ -1,8 +1,8 @@
 use Rattle.std.proofs.Common.{◌∙◌, ap, List}
 use Rattle.std.proofs.lemmas.Iterator.Adapters.{YieldsList-from_rev_slice}
 use Rattle.std.proofs.lemmas.Iterator.Consumers.{YieldsList-end}
-use Rattle.bqn_syntax.specs.Blocks.{plain_in}
-use Rattle.bqn_syntax.specs.Plain.{BodyTree, body_of, bodies}
+use Rattle.bqn_syntax.specs.blocks.Blocks.{plain_in}
+use Rattle.bqn_syntax.specs.grammar.Trees.{BodyTree, body_of, bodies}
 use Rattle.bqn_compile.proofs.Yielded.{all-yielded}
 use Rattle.bqn_compile.proofs.body_kinds.plain_among.Goals as goal
 

@@ -1,4 +1,4 @@
-use Rattle.bqn_syntax.specs.Plain.{tree_of}
+use Rattle.bqn_syntax.specs.grammar.Trees.{tree_of}
 use Rattle.bqn_compile.specs.Shown.{resolution_shown}
 use Rattle.bqn_compile.proofs.verified.TranslatedCode.{given_verified, given_few}
 use Rattle.bqn_compile.proofs.compiling.compile.Goals as goal

@@ -1,5 +1,5 @@
 use Rattle.std.proofs.Common.{◌≡◌, map, drop}
-use Rattle.bqn_syntax.specs.Plain.{pattern_of, patterns}
+use Rattle.bqn_syntax.specs.grammar.Trees.{pattern_of, patterns}
 use Rattle.bqn_compile.specs.Counting.{past, in_all_leaves}
 use Rattle.bqn_compile.proofs.counting.+pattern.Given as goal
 

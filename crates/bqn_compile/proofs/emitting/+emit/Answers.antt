@@ -8,11 +8,11 @@ use Rattle.bqn_syntax.specs.declared.tree.BodyTree.{BodyTree as CodeBody, out-Bo
 use Rattle.bqn_syntax.specs.declared.tree.Expr.{Expr as CodeExpr}
 use Rattle.bqn_syntax.specs.declared.tree.Part.{Part as CodePart}
 use Rattle.bqn_syntax.specs.declared.tree.Stmt.{Stmt as CodeStmt}
-use Rattle.bqn_syntax.specs.Blocks.{plain_in}
-use Rattle.bqn_syntax.specs.Classes.{body_calls}
-use Rattle.bqn_syntax.specs.Exporting.{stmts_export}
-use Rattle.bqn_syntax.specs.Levels.{block-out, body-out}
-use Rattle.bqn_syntax.specs.Plain.{Step, BlockTree, body, header_of, expr_of, part_of, step_of, stmt_of, body_of, steps, exprs, parts, stmts, bodies}
+use Rattle.bqn_syntax.specs.blocks.Blocks.{plain_in}
+use Rattle.bqn_syntax.specs.grammar.Classes.{body_calls}
+use Rattle.bqn_syntax.specs.blocks.Exporting.{stmts_export}
+use Rattle.bqn_syntax.specs.grammar.TreeEquations.{block-out, body-out}
+use Rattle.bqn_syntax.specs.grammar.Trees.{Step, BlockTree, body, header_of, expr_of, part_of, step_of, stmt_of, body_of, steps, exprs, parts, stmts, bodies}
 use Rattle.bqn_code.specs.declared.instr.Instr.TheVariants as i
 use Rattle.bqn_compile.specs.declared.count.Count.{Count}
 use Rattle.bqn_compile.specs.Blocks.{bodies_code}

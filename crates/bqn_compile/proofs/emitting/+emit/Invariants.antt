@@ -1,6 +1,6 @@
 use Rattle.std.proofs.Common.{◌≡◌, ◌++◌, false, length, map, reverse, drop}
-use Rattle.bqn_syntax.specs.Exporting.{stmts_export}
-use Rattle.bqn_syntax.specs.Plain.{expr_of, part_of, step_of, use_of, derived_of, stmt_of, body_of, exprs, parts, steps, uses, deriveds, stmts, bodies}
+use Rattle.bqn_syntax.specs.blocks.Exporting.{stmts_export}
+use Rattle.bqn_syntax.specs.grammar.Trees.{expr_of, part_of, step_of, use_of, derived_of, stmt_of, body_of, exprs, parts, steps, uses, deriveds, stmts, bodies}
 use Rattle.bqn_compile.specs.Blocks.{bodies_code}
 use Rattle.bqn_compile.specs.Walking.{setting_of, names_of, walked, onward, exprs_behind, parts_behind, steps_walk, uses_walk, deriveds_walk, stmts_behind, bodies_behind}
 use Rattle.bqn_compile.proofs.emitting.+emit.Given as goal

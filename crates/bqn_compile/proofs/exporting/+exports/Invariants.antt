@@ -1,6 +1,6 @@
 use Rattle.std.proofs.Common.{◌≡◌, map, drop}
-use Rattle.bqn_syntax.specs.Exporting.{steps_export, uses_export, deriveds_export, exprs_export, parts_export}
-use Rattle.bqn_syntax.specs.Plain.{step_of, steps, use_of, uses, derived_of, deriveds, expr_of, exprs, part_of, parts}
+use Rattle.bqn_syntax.specs.blocks.Exporting.{steps_export, uses_export, deriveds_export, exprs_export, parts_export}
+use Rattle.bqn_syntax.specs.grammar.Trees.{step_of, steps, use_of, uses, derived_of, deriveds, expr_of, exprs, part_of, parts}
 use Rattle.bqn_compile.proofs.exporting.+exports.Given as goal
 
 abbrev pub invariant-steps-loop-s : goal.invariant-steps-loop-s

@@ -1,6 +1,6 @@
 use Rattle.std.proofs.Common.{◌≡◌, map, drop}
-use Rattle.bqn_syntax.specs.Exporting.{stmts_export}
-use Rattle.bqn_syntax.specs.Plain.{stmt_of, stmts}
+use Rattle.bqn_syntax.specs.blocks.Exporting.{stmts_export}
+use Rattle.bqn_syntax.specs.grammar.Trees.{stmt_of, stmts}
 use Rattle.bqn_compile.proofs.exporting.statements.Given as goal
 
 abbrev pub invariant-loop-s : goal.invariant-loop-s

@@ -1,5 +1,5 @@
 use Rattle.std.proofs.Common.{◌≡◌, drop}
-use Rattle.bqn_syntax.specs.Exporting.{targets_export}
+use Rattle.bqn_syntax.specs.blocks.Exporting.{targets_export}
 use Rattle.bqn_compile.proofs.exporting.targets.Given as goal
 
 abbrev pub invariant-loop-t : goal.invariant-loop-t

@@ -1,6 +1,6 @@
 use Rattle.std.proofs.Common.{◌≡◌, map, drop}
-use Rattle.bqn_syntax.specs.Plain.{step_of, use_of, derived_of, expr_of, part_of, stmt_of, body_of}
-use Rattle.bqn_syntax.specs.Plain as plain
+use Rattle.bqn_syntax.specs.grammar.Trees.{step_of, use_of, derived_of, expr_of, part_of, stmt_of, body_of}
+use Rattle.bqn_syntax.specs.grammar.Trees as plain
 use Rattle.bqn_scope.specs.Scopes.{use_shown}
 use Rattle.bqn_compile.specs.Gathering.{the_most, steps, mod_uses, deriveds, exprs, parts, stmts, bodies}
 use Rattle.bqn_compile.specs.Shown.{gathered_shown}

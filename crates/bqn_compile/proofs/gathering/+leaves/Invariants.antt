@@ -1,6 +1,6 @@
 use Rattle.std.proofs.Common.{◌≡◌, map, drop}
-use Rattle.bqn_syntax.specs.Order.{by_arrow}
-use Rattle.bqn_syntax.specs.Plain.{pattern_of, patterns}
+use Rattle.bqn_syntax.specs.scope.Order.{by_arrow}
+use Rattle.bqn_syntax.specs.grammar.Trees.{pattern_of, patterns}
 use Rattle.bqn_scope.specs.Scopes.{use_shown}
 use Rattle.bqn_compile.specs.Gathering.{the_most, all_leaves}
 use Rattle.bqn_compile.specs.Shown.{gathered_shown}

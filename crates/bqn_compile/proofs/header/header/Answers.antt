@@ -1,7 +1,7 @@
 use Rattle.std.proofs.Common.{Option, ap, sym, ◌∙◌}
 use Rattle.std.specs.Option.{option_map}
 use Rattle.bqn_syntax.specs.declared.pattern.Header.{Header as CodeHeader}
-use Rattle.bqn_syntax.specs.Plain.{header_of, pattern_of}
+use Rattle.bqn_syntax.specs.grammar.Trees.{header_of, pattern_of}
 use Rattle.bqn_code.specs.declared.instr.Instr.{Instr}
 use Rattle.bqn_code.specs.declared.instr.Instr.TheVariants as i
 use Rattle.bqn_compile.specs.Bodies.{own_instr}

@@ -1,6 +1,6 @@
 use Rattle.std.proofs.Common.{◌≡◌, map, drop}
-use Rattle.bqn_syntax.specs.Leads.{or_next, steps_lead, uses_lead, deriveds_lead, exprs_lead, parts_lead}
-use Rattle.bqn_syntax.specs.Plain.{step_of, steps, use_of, uses, derived_of, deriveds, expr_of, exprs, part_of, parts}
+use Rattle.bqn_syntax.specs.blocks.Leads.{or_next, steps_lead, uses_lead, deriveds_lead, exprs_lead, parts_lead}
+use Rattle.bqn_syntax.specs.grammar.Trees.{step_of, steps, use_of, uses, derived_of, deriveds, expr_of, exprs, part_of, parts}
 use Rattle.bqn_compile.proofs.leads.+leads.Given as goal
 
 abbrev pub invariant-steps-loop-s : goal.invariant-steps-loop-s

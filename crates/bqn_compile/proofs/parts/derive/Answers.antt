@@ -1,7 +1,7 @@
 use Rattle.std.proofs.Common.{◌∙◌, ap, map, reverse, List, ◌∷◌, ◌++◌, []}
 use Rattle.std.proofs.lemmas.Iterator.Adapters.{YieldsList-from_rev_slice}
 use Rattle.std.proofs.lemmas.Iterator.Consumers.{YieldsList-end}
-use Rattle.bqn_syntax.specs.Plain.{Use, use_of, uses}
+use Rattle.bqn_syntax.specs.grammar.Trees.{Use, use_of, uses}
 use Rattle.bqn_compile.specs.Expressions.{derives}
 use Rattle.bqn_compile.specs.Walking.{pushes, walked}
 use Rattle.bqn_compile.proofs.Walks.{derive-step}

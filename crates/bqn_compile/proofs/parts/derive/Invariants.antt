@@ -1,5 +1,5 @@
 use Rattle.std.proofs.Common.{◌≡◌, map, reverse}
-use Rattle.bqn_syntax.specs.Plain.{use_of, uses}
+use Rattle.bqn_syntax.specs.grammar.Trees.{use_of, uses}
 use Rattle.bqn_compile.specs.Expressions.{derives}
 use Rattle.bqn_compile.specs.Walking.{pushes, walked}
 use Rattle.bqn_compile.proofs.parts.derive.Given as goal

@@ -1,6 +1,6 @@
 use Rattle.std.proofs.Common.{◌≡◌, ◌+◌, ◌++◌, map, drop}
-use Rattle.bqn_syntax.specs.Order.{by_arrow}
-use Rattle.bqn_syntax.specs.Plain.{pattern_of, patterns}
+use Rattle.bqn_syntax.specs.scope.Order.{by_arrow}
+use Rattle.bqn_syntax.specs.grammar.Trees.{pattern_of, patterns}
 use Rattle.bqn_scope.specs.Scopes.{use_shown}
 use Rattle.bqn_code.specs.Plain.{pattern_of as code_of}
 use Rattle.bqn_compile.specs.Counting.{in_all_leaves}

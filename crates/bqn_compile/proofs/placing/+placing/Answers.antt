@@ -1,8 +1,8 @@
 use Rattle.std.proofs.Common.{◌∙◌, ap, map, reverse, List, ◌++◌}
 use Rattle.std.proofs.lemmas.Iterator.Adapters.{YieldsList-from_rev_slice}
 use Rattle.std.proofs.lemmas.Iterator.Consumers.{YieldsList-end}
-use Rattle.bqn_syntax.specs.Leads.{or_else}
-use Rattle.bqn_syntax.specs.Plain.{Use, Derived, use_of, derived_of, uses, deriveds}
+use Rattle.bqn_syntax.specs.blocks.Leads.{or_else}
+use Rattle.bqn_syntax.specs.grammar.Trees.{Use, Derived, use_of, derived_of, uses, deriveds}
 use Rattle.bqn_compile.specs.Expressions.{parts_read}
 use Rattle.bqn_compile.specs.Placing.{uses_places, deriveds_places}
 use Rattle.bqn_compile.proofs.Yielded.{all-yielded}

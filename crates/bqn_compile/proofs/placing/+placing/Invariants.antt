@@ -1,5 +1,5 @@
 use Rattle.std.proofs.Common.{◌≡◌, ◌++◌, map, drop, reverse}
-use Rattle.bqn_syntax.specs.Plain.{step_of, steps, use_of, uses, derived_of, deriveds, expr_of, exprs, part_of, parts}
+use Rattle.bqn_syntax.specs.grammar.Trees.{step_of, steps, use_of, uses, derived_of, deriveds, expr_of, exprs, part_of, parts}
 use Rattle.bqn_compile.specs.Expressions.{parts_read}
 use Rattle.bqn_compile.specs.Placing.{steps_places, uses_places, deriveds_places, exprs_places, parts_places}
 use Rattle.bqn_compile.proofs.placing.+placing.Given as goal

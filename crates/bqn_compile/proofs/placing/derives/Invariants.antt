@@ -1,5 +1,5 @@
 use Rattle.std.proofs.Common.{◌≡◌, ◌++◌, map, drop}
-use Rattle.bqn_syntax.specs.Plain.{use_of, uses}
+use Rattle.bqn_syntax.specs.grammar.Trees.{use_of, uses}
 use Rattle.bqn_compile.specs.Placing.{derives_places}
 use Rattle.bqn_compile.proofs.placing.derives.Given as goal
 

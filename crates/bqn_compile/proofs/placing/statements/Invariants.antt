@@ -1,6 +1,6 @@
 use Rattle.std.proofs.Common.{◌≡◌, ◌++◌, false, map, drop}
-use Rattle.bqn_syntax.specs.Leads.{at_start}
-use Rattle.bqn_syntax.specs.Plain.{stmt_of, stmts}
+use Rattle.bqn_syntax.specs.blocks.Leads.{at_start}
+use Rattle.bqn_syntax.specs.grammar.Trees.{stmt_of, stmts}
 use Rattle.bqn_compile.specs.Placing.{rest_places}
 use Rattle.bqn_compile.proofs.placing.statements.Given as goal
 

@@ -1,5 +1,5 @@
 use Rattle.std.proofs.Common.{◌≡◌, map, drop}
-use Rattle.bqn_syntax.specs.Plain.{pattern_of, patterns}
+use Rattle.bqn_syntax.specs.grammar.Trees.{pattern_of, patterns}
 use Rattle.bqn_compile.specs.Gathering.{all_shown}
 use Rattle.bqn_compile.specs.Shown.{gathered_shown}
 use Rattle.bqn_compile.proofs.pooling.+shown.Given as goal

@@ -1,7 +1,7 @@
 use Rattle.std.proofs.Common.{◌∙◌, rules, tests}
 use Rattle.std.proofs.lemmas.Iterator.{YieldsList-from_slice}
 use Rattle.std.proofs.lemmas.Iterator.Search.{all_from_yields_List}
-use Rattle.bqn_syntax.specs.Classes.{is_plain}
+use Rattle.bqn_syntax.specs.grammar.Classes.{is_plain}
 use Rattle.bqn_headers.specs.Heading.{marks_shown}
 use Rattle.bqn_headers.proofs.Bodies.{list_all-map}
 use Rattle.bqn_headers.proofs.class.all_are_plain.Goals as goal

@@ -1,6 +1,6 @@
 use Rattle.std.proofs.Common.{true, map, length}
-use Rattle.bqn_syntax.specs.Plain.{pattern_of}
-use Rattle.bqn_syntax.specs.Items as items
+use Rattle.bqn_syntax.specs.grammar.Trees.{pattern_of}
+use Rattle.bqn_syntax.specs.grammar.Items as items
 use Rattle.bqn_headers.specs.Elements.{group_shown}
 use Rattle.bqn_headers.proofs.Patterns.{Gone}
 use Rattle.bqn_headers.proofs.element.patterns.Given as goal

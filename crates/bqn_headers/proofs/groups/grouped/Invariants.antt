@@ -1,5 +1,5 @@
 use Rattle.std.proofs.Common.{length}
-use Rattle.bqn_syntax.specs.Items.{groups}
+use Rattle.bqn_syntax.specs.grammar.Items.{groups}
 use Rattle.bqn_headers.specs.Elements.{items_shown}
 use Rattle.bqn_headers.specs.Grouping.{grouping_shown}
 use Rattle.bqn_headers.proofs.Grouped.{Left}

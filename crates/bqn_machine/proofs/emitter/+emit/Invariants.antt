@@ -1,5 +1,5 @@
 use Rattle.std.proofs.Common.{◌≡◌, map, drop}
-use Rattle.bqn_syntax.specs.Plain.{step_of, steps}
+use Rattle.bqn_syntax.specs.grammar.Trees.{step_of, steps}
 use Rattle.bqn_machine.specs.Emission.{steps_emitted}
 use Rattle.bqn_machine.specs.Reading.{spelled}
 use Rattle.bqn_machine.proofs.emitter.+emit.Given as goal

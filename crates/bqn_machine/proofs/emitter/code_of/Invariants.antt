@@ -1,5 +1,5 @@
 use Rattle.std.proofs.Common.{◌≡◌, [], map, drop}
-use Rattle.bqn_syntax.specs.Plain.{stmt_of, stmts}
+use Rattle.bqn_syntax.specs.grammar.Trees.{stmt_of, stmts}
 use Rattle.bqn_machine.specs.Emission.{stmts_emitted}
 use Rattle.bqn_machine.specs.Reading.{spelled}
 use Rattle.bqn_machine.proofs.emitter.code_of.Given as goal

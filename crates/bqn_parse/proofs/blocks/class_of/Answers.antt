@@ -1,6 +1,6 @@
 use Rattle.std.proofs.Common.{◌≡◌, ◌∙◌, List, map, ap, Ok}
-use Rattle.bqn_syntax.specs.Classes as classes
-use Rattle.bqn_syntax.specs.Plain.{body_of, bodies}
+use Rattle.bqn_syntax.specs.grammar.Classes as classes
+use Rattle.bqn_syntax.specs.grammar.Trees.{body_of, bodies}
 use Rattle.bqn_headers.specs.declared.class.BodyMarks.{BodyMarks}
 use Rattle.bqn_headers.specs.Heading.{marks_shown}
 use Rattle.bqn_parse.specs.Marking.{brief}

@@ -1,6 +1,6 @@
 use Rattle.std.proofs.Common.{sym, subst, Result}
 use Rattle.bqn_base.specs.declared.refusal.Refusal.{Refusal}
-use Rattle.bqn_syntax.specs.Parsing as parsing
+use Rattle.bqn_syntax.specs.grammar.Parsing as parsing
 use Rattle.bqn_parse.specs.Views.{element_of}
 use Rattle.bqn_parse.specs.Walking.{Made}
 use Rattle.bqn_parse.proofs.close.close_level.Goals as goal

@@ -1,6 +1,6 @@
 use Rattle.std.proofs.Common.{sym, subst}
 use Rattle.bqn_syntax.specs.declared.sort.Inside.{Inside}
-use Rattle.bqn_syntax.specs.Parsing as parsing
+use Rattle.bqn_syntax.specs.grammar.Parsing as parsing
 use Rattle.bqn_parse.specs.Views.{element_of}
 use Rattle.bqn_parse.specs.Walking.{level_shown, Made}
 use Rattle.bqn_parse.proofs.close.whole.Goals as goal

@@ -1,7 +1,7 @@
 use Rattle.std.proofs.Common.{List, map, subst}
-use Rattle.bqn_syntax.specs.Classes as classes
-use Rattle.bqn_syntax.specs.Parsing as parsing
-use Rattle.bqn_syntax.specs.Plain.{body_of, bodies}
+use Rattle.bqn_syntax.specs.grammar.Classes as classes
+use Rattle.bqn_syntax.specs.grammar.Parsing as parsing
+use Rattle.bqn_syntax.specs.grammar.Trees.{body_of, bodies}
 use Rattle.bqn_syntax.specs.declared.tree.BodyTree.{BodyTree}
 use Rattle.bqn_parse.specs.Views.{element_of}
 use Rattle.bqn_parse.specs.Walking.{Made}

@@ -1,8 +1,8 @@
 use Rattle.std.proofs.Common.{◌∙◌, ap, sym}
 use Rattle.std.specs.Option.{option_map}
-use Rattle.bqn_syntax.specs.Expressions as expressions
-use Rattle.bqn_syntax.specs.Parsing as parsing
-use Rattle.bqn_syntax.specs.Plain.{stmt_of}
+use Rattle.bqn_syntax.specs.grammar.Expressions as expressions
+use Rattle.bqn_syntax.specs.grammar.Parsing as parsing
+use Rattle.bqn_syntax.specs.grammar.Trees.{stmt_of}
 use Rattle.bqn_parse.specs.Views.{items_of}
 use Rattle.bqn_parse.specs.Walking.{level_shown}
 use Rattle.bqn_parse.proofs.Walking.{well-made}

@@ -1,7 +1,7 @@
 use Rattle.std.proofs.Common.{refl, false, ap, sym, Ok}
 use Rattle.bqn_parse.proofs.Looking.{opens-shown, opens-found}
 use Rattle.bqn_parse.specs.Looking.{looks_shown}
-use Rattle.bqn_syntax.specs.Looks.{first_of}
+use Rattle.bqn_syntax.specs.grammar.Looks.{first_of}
 use Rattle.bqn_parse.proofs.looks.look.Goals as goal
 
 pub returns-in_ok-push-in-Opens-clause-looks : goal.returns-in_ok-push-in-Opens-clause-looks

@@ -1,6 +1,6 @@
 use Rattle.std.proofs.Common.{◌≡◌, map, drop}
-use Rattle.bqn_syntax.specs.Classes as classes
-use Rattle.bqn_syntax.specs.Plain.{expr_of, part_of, step_of, derived_of, use_of, exprs, parts, steps, deriveds, uses}
+use Rattle.bqn_syntax.specs.grammar.Classes as classes
+use Rattle.bqn_syntax.specs.grammar.Trees.{expr_of, part_of, step_of, derived_of, use_of, exprs, parts, steps, deriveds, uses}
 use Rattle.bqn_parse.specs.Marking.{seen_shown}
 use Rattle.bqn_parse.proofs.marks.+marks.Given as goal
 

@@ -1,6 +1,6 @@
 use Rattle.std.proofs.Common.{◌≡◌, map, drop}
-use Rattle.bqn_syntax.specs.Classes as classes
-use Rattle.bqn_syntax.specs.Plain.{stmt_of, stmts}
+use Rattle.bqn_syntax.specs.grammar.Classes as classes
+use Rattle.bqn_syntax.specs.grammar.Trees.{stmt_of, stmts}
 use Rattle.bqn_parse.specs.Marking.{seen_shown}
 use Rattle.bqn_parse.proofs.marks.in_stmts.Given as goal
 

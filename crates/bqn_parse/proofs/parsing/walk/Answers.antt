@@ -1,8 +1,8 @@
 use Rattle.std.proofs.Common.{drop, subst, sym, Result, arith}
 use Rattle.bqn_base.specs.declared.refusal.Refusal.{Refusal}
-use Rattle.bqn_syntax.specs.Parsing as parsing
-use Rattle.bqn_syntax.specs.Plain.{Stmts}
-use Rattle.bqn_syntax.specs.Sorts.{sort_of}
+use Rattle.bqn_syntax.specs.grammar.Parsing as parsing
+use Rattle.bqn_syntax.specs.grammar.Trees.{Stmts}
+use Rattle.bqn_syntax.specs.grammar.Sorts.{sort_of}
 use Rattle.bqn_parse.specs.declared.error.ParseError.{ParseError}
 use Rattle.bqn_parse.specs.Looking.{ahead_shown}
 use Rattle.bqn_parse.specs.Views.{Gives}

@@ -1,5 +1,5 @@
 use Rattle.std.proofs.Common.{◌≡◌, ◌++◌, ◌∷◌, [], Bool, None, Option, List, reverse, rules, sym, ap, ◌∙◌}
-use Rattle.bqn_syntax.specs.Items.{Item}
+use Rattle.bqn_syntax.specs.grammar.Items.{Item}
 use Rattle.bqn_parse.specs.Strands.{Strung, one_more, spelt, strung_of}
 use Rattle.bqn_parse.specs.Views.{item_of, items_of, when}
 use Rattle.bqn_parse.proofs.Fused.{items-last}

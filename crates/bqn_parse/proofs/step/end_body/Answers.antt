@@ -1,5 +1,5 @@
 use Rattle.std.proofs.Common.{◌∙◌, ap, sym, Ok}
-use Rattle.bqn_syntax.specs.Parsing as parsing
+use Rattle.bqn_syntax.specs.grammar.Parsing as parsing
 use Rattle.bqn_parse.proofs.step.end_body.Goals as goal
 
 pub returns : goal.returns

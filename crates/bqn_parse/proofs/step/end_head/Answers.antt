@@ -3,8 +3,8 @@ use Rattle.std.specs.Option.{option_map}
 use Rattle.std.proofs.lemmas.Grind.{common_steps}
 use Rattle.std.proofs.Common.{arith}
 use Rattle.bqn_base.specs.declared.refusal.Refusal.{Refusal}
-use Rattle.bqn_syntax.specs.Parsing as parsing
-use Rattle.bqn_syntax.specs.Plain.{header_of, stmt_of}
+use Rattle.bqn_syntax.specs.grammar.Parsing as parsing
+use Rattle.bqn_syntax.specs.grammar.Trees.{header_of, stmt_of}
 use Rattle.bqn_parse.specs.Views.{items_of}
 use Rattle.bqn_parse.specs.Walking.{level_shown, Moves}
 use Rattle.bqn_parse.proofs.Stepping.{headed-first}

@@ -1,6 +1,6 @@
 use Rattle.std.proofs.Common.{◌≡◌, ◌<◌, ◌++◌, ◌∷◌, [], length, ap, ◌∙◌, arith, drop, Box}
 use Rattle.std.specs.Global.{Global}
-use Rattle.bqn_syntax.specs.Parsing as parsing
+use Rattle.bqn_syntax.specs.grammar.Parsing as parsing
 use Rattle.bqn_parse.specs.declared.level.Level.{Level}
 use Rattle.bqn_parse.specs.Walking.{around_shown, level_shown, walk_shown}
 use Rattle.bqn_parse.proofs.Stepping.{length-outer, opened-shown, pushed-shown}

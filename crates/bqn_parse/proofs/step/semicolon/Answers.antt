@@ -1,7 +1,7 @@
 use Rattle.std.proofs.Common.{◌≡◌, ◌∙◌, drop, sym, ap, subst, Result}
 use Rattle.bqn_base.specs.declared.refusal.Refusal.{Refusal}
 use Rattle.bqn_syntax.specs.declared.sort.Inside.{Inside}
-use Rattle.bqn_syntax.specs.Parsing as parsing
+use Rattle.bqn_syntax.specs.grammar.Parsing as parsing
 use Rattle.bqn_parse.specs.declared.level.Level.{Level}
 use Rattle.bqn_parse.specs.Walking.{level_shown, walk_shown, Moves}
 use Rattle.bqn_parse.proofs.Stepping.{goes-on-at, semicolon-elsewhere}

@@ -1,5 +1,5 @@
 use Rattle.std.proofs.Common.{◌≡◌, ◌∙◌, ap, sym, drop, Ok}
-use Rattle.bqn_syntax.specs.Parsing as parsing
+use Rattle.bqn_syntax.specs.grammar.Parsing as parsing
 use Rattle.bqn_parse.specs.declared.level.Level.{Level}
 use Rattle.bqn_parse.specs.Views.{item_of}
 use Rattle.bqn_parse.specs.Walking.{around_shown, level_shown}

@@ -1,5 +1,5 @@
 use Rattle.std.proofs.Common.{◌≡◌, map}
-use Rattle.bqn_syntax.specs.Plain.{step_of}
+use Rattle.bqn_syntax.specs.grammar.Trees.{step_of}
 use Rattle.bqn_parse.specs.Leftward.{left_of, left_shown}
 use Rattle.bqn_parse.specs.Views.{backward}
 use Rattle.bqn_parse.proofs.steps.all_steps.Given as goal

@@ -1,7 +1,7 @@
 use Rattle.std.proofs.Common.{◌∷◌, [], List, map, sym, ap, ◌∙◌}
-use Rattle.bqn_syntax.specs.Expressions.{steps_of}
-use Rattle.bqn_syntax.specs.Plain.{Apply, none, step_of}
-use Rattle.bqn_syntax.specs.Units.{Unit', Function}
+use Rattle.bqn_syntax.specs.grammar.Expressions.{steps_of}
+use Rattle.bqn_syntax.specs.grammar.Trees.{Apply, none, step_of}
+use Rattle.bqn_syntax.specs.grammar.Units.{Unit', Function}
 use Rattle.bqn_parse.specs.Drafts.{function_of}
 use Rattle.bqn_parse.specs.Leftward.{joined}
 use Rattle.bqn_parse.proofs.Leftward.{joined-more}

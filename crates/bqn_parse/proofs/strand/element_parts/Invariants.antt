@@ -1,7 +1,7 @@
 use Rattle.std.proofs.Common.{◌≡◌, map}
 use Rattle.std.specs.Vec.Iter.{into_iter_items}
-use Rattle.bqn_syntax.specs.Items as items
-use Rattle.bqn_syntax.specs.Plain.{part_of}
+use Rattle.bqn_syntax.specs.grammar.Items as items
+use Rattle.bqn_syntax.specs.grammar.Trees.{part_of}
 use Rattle.bqn_parse.specs.Strands.{elements_of}
 use Rattle.bqn_parse.proofs.Strands.{behind}
 use Rattle.bqn_parse.proofs.strand.element_parts.Given as goal

@@ -1,5 +1,5 @@
 use Rattle.std.proofs.Common.{◌≡◌, [], length, reverse}
-use Rattle.bqn_syntax.specs.Expressions as expressions
+use Rattle.bqn_syntax.specs.grammar.Expressions as expressions
 use Rattle.bqn_parse.specs.Views.{backward}
 use Rattle.bqn_parse.proofs.targets.targets.Given as goal
 

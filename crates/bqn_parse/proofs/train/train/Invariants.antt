@@ -1,6 +1,6 @@
 use Rattle.std.proofs.Common.{◌≡◌, ◌+◌, false, length}
-use Rattle.bqn_syntax.specs.Expressions as expressions
-use Rattle.bqn_syntax.specs.Plain.{and_deriveds, no_deriveds}
+use Rattle.bqn_syntax.specs.grammar.Expressions as expressions
+use Rattle.bqn_syntax.specs.grammar.Trees.{and_deriveds, no_deriveds}
 use Rattle.bqn_parse.specs.Drafts.{function_of}
 use Rattle.bqn_parse.specs.Trains.{parts_shown}
 use Rattle.bqn_parse.specs.Views.{backward}

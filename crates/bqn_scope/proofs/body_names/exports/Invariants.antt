@@ -1,5 +1,5 @@
 use Rattle.std.proofs.Common.{◌≡◌, [], ◌++◌, drop}
-use Rattle.bqn_syntax.specs.Bodies.{exports_of}
+use Rattle.bqn_syntax.specs.scope.Bodies.{exports_of}
 use Rattle.bqn_scope.specs.Numbering.{exported_names}
 use Rattle.bqn_scope.specs.Scopes.{known_in}
 use Rattle.bqn_scope.specs.Shown.{mentions_shown}

@@ -1,5 +1,5 @@
 use Rattle.std.proofs.Common.{◌≡◌, ◌++◌, drop}
-use Rattle.bqn_syntax.specs.Scope.{definitions}
+use Rattle.bqn_syntax.specs.scope.Scope.{definitions}
 use Rattle.bqn_scope.specs.Defining.{behind}
 use Rattle.bqn_scope.specs.Shown.{mentions_shown}
 use Rattle.bqn_scope.specs.Tokens.{known_names, names_of_tokens, tokens_shown}

@@ -1,5 +1,5 @@
 use Rattle.std.proofs.Common.{◌≡◌, ◌++◌, drop, length}
-use Rattle.bqn_syntax.specs.Scope.{too_early}
+use Rattle.bqn_syntax.specs.scope.Scope.{too_early}
 use Rattle.bqn_scope.specs.Shown.{events_shown}
 use Rattle.bqn_scope.specs.Tokens.{tokens_shown}
 use Rattle.bqn_scope.specs.Waiting.{kept}

@@ -1,5 +1,5 @@
-use Rattle.bqn_syntax.specs.Mentions.{exprs_mentions, parts_mentions, uses_mentions, deriveds_mentions, stmts_mentions, scopes_of}
-use Rattle.bqn_syntax.specs.Plain.{expr_of, part_of, derived_of, use_of, stmt_of, exprs, parts, deriveds, uses, stmts, bodies, body_of}
+use Rattle.bqn_syntax.specs.scope.Mentions.{exprs_mentions, parts_mentions, uses_mentions, deriveds_mentions, stmts_mentions, scopes_of}
+use Rattle.bqn_syntax.specs.grammar.Trees.{expr_of, part_of, derived_of, use_of, stmt_of, exprs, parts, deriveds, uses, stmts, bodies, body_of}
 use Rattle.bqn_scope.specs.Shown.{mentions_backward}
 use Rattle.std.proofs.Common.{◌∙◌, ap}
 use Rattle.std.proofs.lemmas.Iterator.Adapters.{YieldsList-from_rev_slice}

@@ -1,6 +1,6 @@
 use Rattle.std.proofs.Common.{◌≡◌, map, reverse, drop}
-use Rattle.bqn_syntax.specs.Mentions.{exprs_mentions, parts_mentions, steps_mentions, uses_mentions, deriveds_mentions, stmts_mentions, scopes_of}
-use Rattle.bqn_syntax.specs.Plain.{expr_of, part_of, step_of, derived_of, use_of, stmt_of, exprs, parts, steps, deriveds, uses, stmts, bodies, body_of}
+use Rattle.bqn_syntax.specs.scope.Mentions.{exprs_mentions, parts_mentions, steps_mentions, uses_mentions, deriveds_mentions, stmts_mentions, scopes_of}
+use Rattle.bqn_syntax.specs.grammar.Trees.{expr_of, part_of, step_of, derived_of, use_of, stmt_of, exprs, parts, steps, deriveds, uses, stmts, bodies, body_of}
 use Rattle.bqn_scope.specs.Shown.{mentions_backward, scopes_backward}
 use Rattle.bqn_scope.proofs.mentions.+mentions.Given as goal
 

@@ -1,5 +1,5 @@
-use Rattle.bqn_syntax.specs.Mentions.{patterns_mentions}
-use Rattle.bqn_syntax.specs.Plain.{pattern_of, patterns}
+use Rattle.bqn_syntax.specs.scope.Mentions.{patterns_mentions}
+use Rattle.bqn_syntax.specs.grammar.Trees.{pattern_of, patterns}
 use Rattle.bqn_scope.specs.Shown.{how_shown, mentions_backward}
 use Rattle.std.proofs.Common.{◌∙◌, ap}
 use Rattle.std.proofs.lemmas.Iterator.Adapters.{YieldsList-from_rev_slice}

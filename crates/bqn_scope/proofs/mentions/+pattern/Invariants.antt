@@ -1,6 +1,6 @@
 use Rattle.std.proofs.Common.{◌≡◌, map, reverse}
-use Rattle.bqn_syntax.specs.Mentions.{patterns_mentions}
-use Rattle.bqn_syntax.specs.Plain.{pattern_of, patterns}
+use Rattle.bqn_syntax.specs.scope.Mentions.{patterns_mentions}
+use Rattle.bqn_syntax.specs.grammar.Trees.{pattern_of, patterns}
 use Rattle.bqn_scope.specs.Shown.{how_shown, mentions_backward}
 use Rattle.bqn_scope.proofs.mentions.+pattern.Given as goal
 

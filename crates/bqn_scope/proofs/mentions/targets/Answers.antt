@@ -1,4 +1,4 @@
-use Rattle.bqn_syntax.specs.Mentions.{target_mentions}
+use Rattle.bqn_syntax.specs.scope.Mentions.{target_mentions}
 use Rattle.bqn_scope.specs.Shown.{mentions_backward}
 use Rattle.std.proofs.Common.{◌∙◌, ap}
 use Rattle.std.proofs.lemmas.Iterator.Adapters.{YieldsList-from_rev_slice}

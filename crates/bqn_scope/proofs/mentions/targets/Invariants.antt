@@ -1,5 +1,5 @@
 use Rattle.std.proofs.Common.{◌≡◌, map, reverse}
-use Rattle.bqn_syntax.specs.Mentions.{target_mentions}
+use Rattle.bqn_syntax.specs.scope.Mentions.{target_mentions}
 use Rattle.bqn_scope.specs.Shown.{mentions_backward}
 use Rattle.bqn_scope.proofs.mentions.targets.Given as goal
 

@@ -1,5 +1,5 @@
 use Rattle.std.proofs.Common.{◌≡◌, drop}
-use Rattle.bqn_syntax.specs.Bodies.{inside, inside_block}
+use Rattle.bqn_syntax.specs.scope.Bodies.{inside, inside_block}
 use Rattle.bqn_scope.specs.Numbering.{bodies_shown}
 use Rattle.bqn_scope.specs.Shown.{mentions_shown, scopes_shown}
 use Rattle.bqn_scope.proofs.numbering.+numbering.Given as goal

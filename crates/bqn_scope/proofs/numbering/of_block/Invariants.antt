@@ -1,5 +1,5 @@
 use Rattle.std.proofs.Common.{◌≡◌, ◌++◌, drop}
-use Rattle.bqn_syntax.specs.Bodies.{of_block}
+use Rattle.bqn_syntax.specs.scope.Bodies.{of_block}
 use Rattle.bqn_scope.specs.Numbering.{bodies_shown}
 use Rattle.bqn_scope.specs.Shown.{scopes_shown}
 use Rattle.bqn_scope.proofs.numbering.of_block.Given as goal

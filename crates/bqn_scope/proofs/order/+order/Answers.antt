@@ -1,11 +1,11 @@
-use Rattle.bqn_syntax.specs.Order.{exprs_order, parts_order, steps_order}
-use Rattle.bqn_syntax.specs.Plain.{expr_of, part_of, step_of, derived_of, exprs, parts, steps}
+use Rattle.bqn_syntax.specs.scope.Order.{exprs_order, parts_order, steps_order}
+use Rattle.bqn_syntax.specs.grammar.Trees.{expr_of, part_of, step_of, derived_of, exprs, parts, steps}
 use Rattle.bqn_scope.specs.Shown.{events_backward}
 use Rattle.std.proofs.Common.{◌∙◌, ap}
 use Rattle.std.proofs.lemmas.Iterator.Adapters.{YieldsList-from_rev_slice}
 use Rattle.std.proofs.lemmas.Iterator.Consumers.{YieldsList-end}
 use Rattle.bqn_scope.proofs.Backward.{all-yielded}
-use Rattle.bqn_syntax.specs.Order.{Changes, leaf_order, derived_order}
+use Rattle.bqn_syntax.specs.scope.Order.{Changes, leaf_order, derived_order}
 use Rattle.bqn_scope.proofs.Unstarted.{on_ok, unstarted-Modify, unstarted-Apply, unstarted-Assign}
 use Rattle.bqn_scope.proofs.order.+order.Goals as goal
 

@@ -1,6 +1,6 @@
 use Rattle.std.proofs.Common.{◌≡◌, map, reverse, drop}
-use Rattle.bqn_syntax.specs.Order.{exprs_order, parts_order, steps_order, uses_order, deriveds_order}
-use Rattle.bqn_syntax.specs.Plain.{expr_of, part_of, step_of, derived_of, use_of, exprs, parts, steps, deriveds, uses}
+use Rattle.bqn_syntax.specs.scope.Order.{exprs_order, parts_order, steps_order, uses_order, deriveds_order}
+use Rattle.bqn_syntax.specs.grammar.Trees.{expr_of, part_of, step_of, derived_of, use_of, exprs, parts, steps, deriveds, uses}
 use Rattle.bqn_scope.specs.Shown.{events_backward}
 use Rattle.bqn_scope.proofs.order.+order.Given as goal
 

@@ -1,6 +1,6 @@
 use Rattle.std.proofs.Common.{◌≡◌, map, reverse}
-use Rattle.bqn_syntax.specs.Order.{patterns_order}
-use Rattle.bqn_syntax.specs.Plain.{pattern_of, patterns}
+use Rattle.bqn_syntax.specs.scope.Order.{patterns_order}
+use Rattle.bqn_syntax.specs.grammar.Trees.{pattern_of, patterns}
 use Rattle.bqn_scope.specs.Shown.{how_shown, events_backward}
 use Rattle.bqn_scope.proofs.order.+pattern.Given as goal
 

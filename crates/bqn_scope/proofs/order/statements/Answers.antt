@@ -1,5 +1,5 @@
-use Rattle.bqn_syntax.specs.Order.{stmts_order}
-use Rattle.bqn_syntax.specs.Plain.{stmt_of, stmts}
+use Rattle.bqn_syntax.specs.scope.Order.{stmts_order}
+use Rattle.bqn_syntax.specs.grammar.Trees.{stmt_of, stmts}
 use Rattle.bqn_scope.specs.Shown.{events_backward}
 use Rattle.std.proofs.Common.{◌∙◌, ap}
 use Rattle.std.proofs.lemmas.Iterator.Adapters.{YieldsList-from_rev_slice}

@@ -1,6 +1,6 @@
 use Rattle.std.proofs.Common.{◌≡◌, map, reverse}
-use Rattle.bqn_syntax.specs.Order.{stmts_order}
-use Rattle.bqn_syntax.specs.Plain.{stmt_of, stmts}
+use Rattle.bqn_syntax.specs.scope.Order.{stmts_order}
+use Rattle.bqn_syntax.specs.grammar.Trees.{stmt_of, stmts}
 use Rattle.bqn_scope.specs.Shown.{events_backward}
 use Rattle.bqn_scope.proofs.order.statements.Given as goal
 

@@ -1,5 +1,5 @@
 use Rattle.std.proofs.Common.{◌≡◌, drop}
-use Rattle.bqn_syntax.specs.Order.{targets_order}
+use Rattle.bqn_syntax.specs.scope.Order.{targets_order}
 use Rattle.bqn_scope.specs.Shown.{events_backward}
 use Rattle.bqn_scope.proofs.order.targets.Given as goal
 

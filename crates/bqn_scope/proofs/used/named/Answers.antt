@@ -1,5 +1,5 @@
 use Rattle.std.proofs.Common.{◌∙◌, ap, sym}
-use Rattle.bqn_syntax.specs.Scope.{named}
+use Rattle.bqn_syntax.specs.scope.Scope.{named}
 use Rattle.bqn_scope.specs.Around.{bodies_around}
 use Rattle.bqn_scope.specs.Scopes.{uses_shown}
 use Rattle.bqn_scope.specs.Shown.{how_shown}

@@ -1,5 +1,5 @@
 use Rattle.std.proofs.Common.{◌≡◌, drop}
-use Rattle.bqn_syntax.specs.Scope.{uses_of, uses_inside}
+use Rattle.bqn_syntax.specs.scope.Scope.{uses_of, uses_inside}
 use Rattle.bqn_scope.specs.Around.{IsBound, bodies_around}
 use Rattle.bqn_scope.specs.Scopes.{uses_shown}
 use Rattle.bqn_scope.specs.Shown.{mentions_shown, scopes_shown}

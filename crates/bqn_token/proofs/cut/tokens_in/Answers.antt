@@ -1,5 +1,5 @@
 use Rattle.std.proofs.Common.{ℕ, List, Err, subst, sym, ◌∙◌, arith}
-use Rattle.bqn_syntax.specs.Tokens.{kind_of, tokens_of_text}
+use Rattle.bqn_syntax.specs.text.Tokens.{kind_of, tokens_of_text}
 use Rattle.bqn_token.specs.Tokenizing.{Gives, placed}
 use Rattle.bqn_token.proofs.Pieces.{error-at, longest-some, longest-inside, alone-kept, short-kept, piece-kept, line-past, column-past, line-behind-is, column-behind-is}
 use Rattle.bqn_token.proofs.cut.tokens_in.Goals as goal

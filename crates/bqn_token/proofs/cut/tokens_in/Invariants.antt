@@ -1,6 +1,6 @@
 use Rattle.std.proofs.Common.{◌≡◌, ◌≤◌, ◌+◌, length}
 use Rattle.std.specs.Vec.{vec_capacity, vec_len}
-use Rattle.bqn_syntax.specs.Tokens.{tokens_behind, tokens_of_text}
+use Rattle.bqn_syntax.specs.text.Tokens.{tokens_behind, tokens_of_text}
 use Rattle.bqn_token.proofs.Pieces.{onto}
 use Rattle.bqn_token.proofs.cut.tokens_in.Given as goal
 

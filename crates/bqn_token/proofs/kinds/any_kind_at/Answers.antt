@@ -1,6 +1,6 @@
 use Rattle.std.proofs.Common.{Option, Result, sym, subst, ◌∙◌}
 use Rattle.bqn_syntax.specs.declared.token.Kind.{Kind}
-use Rattle.bqn_syntax.specs.Tokens.{Trouble}
+use Rattle.bqn_syntax.specs.text.Tokens.{Trouble}
 use Rattle.bqn_token.specs.Tokenizing.{Gives, placed}
 use Rattle.bqn_token.proofs.Alones.{placed-single, kind-number}
 use Rattle.bqn_token.proofs.kinds.any_kind_at.Goals as goal

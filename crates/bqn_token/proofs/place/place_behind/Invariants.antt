@@ -1,5 +1,5 @@
 use Rattle.std.proofs.Common.{◌≡◌, ◌≤◌, ◌+◌, drop}
-use Rattle.bqn_syntax.specs.Tokens.{behind}
+use Rattle.bqn_syntax.specs.text.Tokens.{behind}
 use Rattle.bqn_token.proofs.place.place_behind.Given as goal
 
 abbrev pub invariant-piece : goal.invariant-piece

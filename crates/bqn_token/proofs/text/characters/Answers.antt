@@ -1,7 +1,7 @@
 use Rattle.std.proofs.Common.{ℕ, List, sym, ap, ◌∙◌}
 use Rattle.std.specs.Prelude.{nat_eq}
 use Rattle.std.specs.List.{list_any}
-use Rattle.bqn_syntax.specs.Text.{without_returns}
+use Rattle.bqn_syntax.specs.text.Text.{without_returns}
 use Rattle.bqn_token.proofs.Returns.{without_returns-none}
 use Rattle.bqn_token.proofs.text.characters.Goals as goal
 

@@ -1,5 +1,5 @@
 use Rattle.std.proofs.Common.{◌∙◌, ap, sym, List, ℕ}
-use Rattle.bqn_syntax.specs.Scope.{place_of}
+use Rattle.bqn_syntax.specs.scope.Scope.{place_of}
 use Rattle.bqn_scope.proofs.Spelling.{place-spelled}
 use Rattle.bqn_compile.proofs.name_pool.NamePool.position.Goals as goal
 

@@ -1,5 +1,5 @@
 use Rattle.std.proofs.Common.{◌≡◌, [], ◌∙◌, ap, sym, arith}
-use Rattle.bqn_syntax.specs.Scope.{Scope, block_scope}
+use Rattle.bqn_syntax.specs.scope.Scope.{Scope, block_scope}
 use Rattle.bqn_scope.specs.Bindings.{bindings_shown, bound_by, hidden_by, hidden_shown}
 use Rattle.bqn_scope.specs.Levels.{own-out}
 use Rattle.bqn_scope.specs.Scopes.{known_in}

@@ -1,5 +1,5 @@
 use Rattle.std.proofs.Common.{◌≡◌, [], ◌∷◌, ◌++◌, ◌∙◌, ap, arith}
-use Rattle.bqn_syntax.specs.Scope.{Scope}
+use Rattle.bqn_syntax.specs.scope.Scope.{Scope}
 use Rattle.bqn_scope.specs.Bindings.{bindings_shown, bound_by}
 use Rattle.bqn_scope.specs.Scopes.{known_in}
 use Rattle.bqn_scope.specs.Tokens.{names_of_tokens, tokens_shown}

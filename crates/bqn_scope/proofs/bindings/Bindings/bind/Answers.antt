@@ -1,6 +1,6 @@
 use Rattle.std.proofs.Common.{◌≡◌, ◌<◌, ◌≤◌, ◌+◌, ◌-◌, ◌∙◌, ap, sym, get_or, length, arith}
 use Rattle.std.proofs.lemmas.List.{length-map}
-use Rattle.bqn_syntax.specs.Scope.{name_of}
+use Rattle.bqn_syntax.specs.scope.Scope.{name_of}
 use Rattle.bqn_scope.specs.Bindings.{bindings_shown, hidden_shown}
 use Rattle.bqn_scope.specs.Tokens.{tokens_shown, names_of_tokens}
 use Rattle.bqn_scope.proofs.Binding.{bind-more, hide-more, hidden-more, token-name-at}

@@ -1,5 +1,5 @@
 use Rattle.std.proofs.Common.{◌≡◌, ◌∷◌, ◌++◌, [], ◌∙◌, ap, List, ℕ, false}
-use Rattle.bqn_syntax.specs.Scope.{has}
+use Rattle.bqn_syntax.specs.scope.Scope.{has}
 use Rattle.bqn_scope.specs.Names.{spelled}
 use Rattle.bqn_scope.proofs.Spelling.{spelled-inserted}
 use Rattle.bqn_scope.proofs.spellings.Spellings.push.Goals as goal

@@ -1,0 +1,7 @@
+//! What code means: what each instruction does with the stack, the variables and the output. Nothing
+//! runs here: the definitions stand in `specs/`.
+#![tactic(auto)]
+
+mod laws;
+
+pub use laws::verified_code_is_never_stuck;

@@ -1,0 +1,2 @@
+pub mod advancing
+mod MeaningSamples

@@ -1,0 +1,11 @@
+pub mod Matching
+pub mod Order
+pub mod Ties
+pub mod Levels
+pub mod Proper
+pub mod Prototypes
+pub mod Making
+pub mod Questioning
+pub mod Stamping
+mod ValueSamples
+mod CallSamples

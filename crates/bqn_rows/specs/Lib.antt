@@ -1,0 +1,11 @@
+pub mod Plain
+pub mod Relations
+pub mod Limits
+pub mod Atoms
+pub mod Primitives
+pub mod Shown
+pub mod Raised
+pub mod Calls
+pub mod Running
+pub mod Questions
+pub mod Laws

@@ -1,0 +1,52 @@
+//! What holds of the definitions themselves: nothing runs here.
+
+ghost use Rattle.bqn_rows.specs.Laws.{MatchIsEquality, SameIsEquality, OrderIsTotal, LevelsAreOfElements, MadeIsWithinLimits, PrototypesAreFills, PlacesStay};
+ghost use Rattle.bqn_rows.specs.Questions.{QuestionsAreOfTheCall};
+
+/// Match is equality of data up to fills: reflexive there, symmetric and transitive.
+#[tactic(auto, using(crate::proofs::Matching::matching_laws))]
+pub fn match_is_equality()
+    ensures { MatchIsEquality }
+{}
+
+/// The test that a fill is the same is equality of values.
+#[tactic(auto, using(crate::proofs::Matching::matching_laws))]
+pub fn same_is_equality()
+    ensures { SameIsEquality }
+{}
+
+/// The order is total; of values with a level it tells apart exactly those that do not match.
+#[tactic(auto, using(crate::proofs::Ties::order_laws))]
+pub fn order_is_total()
+    ensures { OrderIsTotal }
+{}
+
+/// A list has level k + 1 where all its elements have level k; numbers and characters have level 0.
+#[tactic(auto, using(crate::proofs::Levels::level_laws))]
+pub fn levels_are_of_elements()
+    ensures { LevelsAreOfElements }
+{}
+
+/// What is made keeps the limits, and is proper where its parts are.
+#[tactic(auto, using(crate::proofs::Making::making_laws))]
+pub fn made_is_within_limits()
+    ensures { MadeIsWithinLimits }
+{}
+
+/// A prototype is its own prototype and as large as the value; it and the fill of a proper value may be carried.
+#[tactic(auto, using(crate::proofs::Prototypes::prototype_laws))]
+pub fn prototypes_are_fills()
+    ensures { PrototypesAreFills }
+{}
+
+/// What a call asks after given replies is what it asks when it is run on them.
+#[tactic(auto, using(crate::proofs::Questioning::question_laws))]
+pub fn questions_are_of_the_call()
+    ensures { QuestionsAreOfTheCall }
+{}
+
+/// A fault that has a place keeps it; one that has none gets the place of the operation, if that has one.
+#[tactic(auto, using(crate::proofs::Stamping::place_laws))]
+pub fn places_stay()
+    ensures { PlacesStay }
+{}
