@@ -1,5 +1,58 @@
--- Tests of characters that several definitions share.
+-- Characters that have a name in definitions, and tests that several of them share.
 use Rattle.std.specs.Prelude.{ℕ, nat_le, Bool, ◌&&◌, ◌||◌}
+
+abbrev pub tab : ℕ
+tab = 9
+
+abbrev pub newline : ℕ
+newline = 10
+
+abbrev pub carriage_return : ℕ
+carriage_return = 13
+
+abbrev pub space : ℕ
+space = 32
+
+abbrev pub double_quote : ℕ
+double_quote = 34
+
+abbrev pub number_sign : ℕ
+number_sign = 35
+
+abbrev pub single_quote : ℕ
+single_quote = 39
+
+abbrev pub comma : ℕ
+comma = 44
+
+abbrev pub dot : ℕ
+dot = 46
+
+abbrev pub underscore : ℕ
+underscore = 95
+
+abbrev pub delete : ℕ
+delete = 127
+
+-- `¯`, which stands in front of the digits of a negative number
+abbrev pub macron : ℕ
+macron = 175
+
+-- `π`
+abbrev pub pi : ℕ
+pi = 960
+
+-- `•`, which stands in front of a system name
+abbrev pub bullet : ℕ
+bullet = 8226
+
+-- `∞`
+abbrev pub infinity : ℕ
+infinity = 8734
+
+-- `𝕣`, which stands in words
+abbrev pub own_modifier : ℕ
+own_modifier = 120163
 
 abbrev pub is_digit : ℕ → Bool
 is_digit c = nat_le 48 c && nat_le c 57

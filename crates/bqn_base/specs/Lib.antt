@@ -1,5 +1,6 @@
 pub mod Characters
 pub mod Names
+pub mod Signs
 pub mod Arithmetic
 pub mod Literal
 pub mod Places

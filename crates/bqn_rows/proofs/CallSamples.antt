@@ -6,7 +6,8 @@ use Rattle.bqn_base.specs.declared.fault.Fault.TheVariants.{Domain, Overflow, No
 use Rattle.bqn_rows.specs.Plain.{Atop, Fork, Value, Number, Character, Given, Derived, Function, Modifier1, Namespace, none, more}
 use Rattle.bqn_rows.specs.Primitives as p
 use Rattle.bqn_rows.specs.Primitives.{Primitive, primitives, monadic, dyadic}
-use Rattle.bqn_rows.specs.Shown.{shown, spelling, primitive_signs}
+use Rattle.bqn_base.specs.Signs.{primitive_signs}
+use Rattle.bqn_rows.specs.Shown.{shown, spelling}
 use Rattle.bqn_rows.specs.Raised.{unplaced}
 use Rattle.bqn_rows.specs.Calls.{alone, two, no_arguments, run_block}
 use Rattle.bqn_rows.specs.Questions.{next, walk, Outcome, Asks, Enter, Write}

@@ -2,18 +2,12 @@
 use Rattle.std.specs.Prelude.{ℕ, ◌==◌, ◌-◌, nat_lt, Bool, true, false, ◌||◌, List, [], ◌∷◌, ◌++◌, slice_get, Option, Some, None, decimal}
 use lib.Chars.{codes}
 use Rattle.bqn_base.specs.Printed.{number_text}
+use Rattle.bqn_base.specs.Signs.{primitive_signs, system_names, capitalized}
 use Rattle.bqn_rows.specs.Plain.{Value, Number, Character, Array, Given, Derived, Function, Modifier1, Modifier2, Namespace}
-
--- primitives in the order of their codes
-abbrev pub primitive_signs : List ℕ
-primitive_signs = codes "+-×÷⋆√⌊⌈|¬∧∨<>≠=≤≥≡≢⊣⊢⥊∾≍⋈↑↓↕«»⌽⍉/⍋⍒⊏⊑⊐⊒∊⍷⊔!˙˜˘¨⌜⁼´˝`∘○⊸⟜⌾⊘◶⎉⚇⍟⎊"
-
-abbrev pub system_names : List (List ℕ)
-system_names = codes "•Out" ∷ codes "•Show" ∷ codes "•Repr" ∷ codes "•Fmt" ∷ codes "•Type" ∷ []
 
 abbrev pub named : Option (List ℕ) → List ℕ
 named None = []
-named (Some name) = name
+named (Some name) = codes "•" ++ capitalized name
 
 abbrev pub sign_or_name : Option ℕ → ℕ → List ℕ
 sign_or_name (Some sign) code = sign ∷ []

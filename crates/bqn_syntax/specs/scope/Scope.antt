@@ -1,9 +1,10 @@
 -- The body and the slot that each name refers to, or the first refusal of the text: BQN's page on scope. That an early use is
 -- refused, and what a session's names do, is this project's own.
-use Rattle.std.specs.Prelude.{ℕ, ◌+◌, nat_eq, Bool, true, false, not, ◌&&◌, if◌then◌else◌, List, [], ◌∷◌, ◌++◌, map, position, codes, Option, Some, None, Result, Ok, Err}
+use Rattle.std.specs.Prelude.{ℕ, ◌+◌, nat_eq, Bool, true, false, not, ◌&&◌, if◌then◌else◌, List, [], ◌∷◌, ◌++◌, map, position, Option, Some, None, Result, Ok, Err}
 use Rattle.std.specs.List.{list_any}
 use Rattle.std.specs.Option.{option_map}
 use Rattle.std.specs.Cmp.Lexicographic.{pointwise}
+pub use Rattle.bqn_base.specs.Signs.{system_names}
 use Rattle.bqn_base.specs.declared.place.Place.{Place}
 use Rattle.bqn_base.specs.declared.refusal.Refusal.{Refusal}
 use Rattle.bqn_base.specs.declared.refusal.Refusal.TheVariants as refusal
@@ -33,10 +34,6 @@ has names name = list_any (λ other. same_name other name) names
 
 abbrev pub same_place : Token → Token → Bool
 same_place t u = nat_eq t.place.line u.place.line && nat_eq t.place.column u.place.column
-
--- the system values
-abbrev pub system_names : List (List ℕ)
-system_names = codes "out" ∷ codes "show" ∷ codes "repr" ∷ codes "fmt" ∷ codes "type" ∷ codes "args" ∷ []
 
 -- What a body defines, and which of its uses come too early.
 

@@ -2,17 +2,10 @@
 use Rattle.std.specs.Prelude.{ℕ, ◌==◌, Bool, true, false, ◌||◌, if◌then◌else◌, List, [], ◌∷◌, ◌++◌, Option, Some, None}
 use Rattle.std.specs.List.{list_any}
 pub use Rattle.bqn_base.specs.Characters.{is_digit, is_lower, is_letter}
+pub use Rattle.bqn_base.specs.Signs.{primitive_functions, primitive_modifiers}
 use lib.Chars.{codes}
 use Rattle.bqn_syntax.specs.declared.progress.Progress.{Progress}
 use Rattle.bqn_syntax.specs.declared.progress.Progress.TheVariants.{Start, Done, Comment, Word, Digit, Dot, Bullet, Quote, Quoted, Inside, Closed}
-
--- 44 primitive functions, in the order of their codes
-abbrev pub primitive_functions : List ℕ
-primitive_functions = codes "+-×÷⋆√⌊⌈|¬∧∨<>≠=≤≥≡≢⊣⊢⥊∾≍⋈↑↓↕«»⌽⍉/⍋⍒⊏⊑⊐⊒∊⍷⊔!"
-
--- 9 primitive 1-modifiers and 11 primitive 2-modifiers, in the order of their codes
-abbrev pub primitive_modifiers : List ℕ
-primitive_modifiers = codes "˙˜˘¨⌜⁼´˝`" ++ codes "∘○⊸⟜⌾⊘◶⎉⚇⍟⎊"
 
 -- the special names of one character; `𝕣` belongs to the words
 abbrev pub special_names : List ℕ
