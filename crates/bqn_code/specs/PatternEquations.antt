@@ -19,4 +19,4 @@ pattern-List all = search (rules, the_lemmas)
 pub pattern-Literal : (constant : ℕ) → pattern_of (pattern.Literal constant) ≡ Literal constant
 pattern-Literal constant = search (rules, the_lemmas)
 
-pub ruleset levels = (pattern-Skip, pattern-Define, pattern-Change, pattern-List, pattern-Literal)
+pub ruleset pattern_equations = (pattern-Skip, pattern-Define, pattern-Change, pattern-List, pattern-Literal)

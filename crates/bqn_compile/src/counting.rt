@@ -19,7 +19,7 @@ pub fn token(t: &Token) -> Count
 }
 
 #[cycle(pattern)]
-#[tactic(auto, using(bqn_syntax::specs::grammar::TreeEquations::levels, crate::proofs::Counts::count_laws))]
+#[tactic(auto, using(bqn_syntax::specs::grammar::TreeEquations::tree_equations, crate::proofs::Counts::count_laws))]
 pub fn leaves(q: &Pattern) -> Result<Count, NoMemory>
     ensures { IfOk result (λ c. c ≡ in_leaves (pattern_of q.now)) }
 {
@@ -32,7 +32,7 @@ pub fn leaves(q: &Pattern) -> Result<Count, NoMemory>
 }
 
 #[cycle(pattern)]
-#[tactic(auto, using(bqn_syntax::specs::grammar::TreeEquations::levels, crate::proofs::Counts::count_laws))]
+#[tactic(auto, using(bqn_syntax::specs::grammar::TreeEquations::tree_equations, crate::proofs::Counts::count_laws))]
 fn all_leaves(all: &[Pattern]) -> Result<Count, NoMemory>
     ensures { IfOk result (λ c. c ≡ in_all_leaves (plain_patterns (map pattern_of all.now))) }
 {
@@ -43,7 +43,7 @@ fn all_leaves(all: &[Pattern]) -> Result<Count, NoMemory>
     Ok(so)
 }
 
-#[tactic(auto, using(bqn_syntax::specs::grammar::TreeEquations::levels, crate::proofs::Counts::count_laws))]
+#[tactic(auto, using(bqn_syntax::specs::grammar::TreeEquations::tree_equations, crate::proofs::Counts::count_laws))]
 fn pattern(q: &Pattern) -> Result<Count, NoMemory>
     ensures { IfOk result (λ c. c ≡ in_pattern (pattern_of q.now)) }
 {
@@ -51,7 +51,7 @@ fn pattern(q: &Pattern) -> Result<Count, NoMemory>
 }
 
 /// The target of an arrow.
-#[tactic(auto, using(bqn_syntax::specs::grammar::TreeEquations::levels, crate::proofs::Counts::count_laws))]
+#[tactic(auto, using(bqn_syntax::specs::grammar::TreeEquations::tree_equations, crate::proofs::Counts::count_laws))]
 pub fn target(q: &Pattern) -> Result<Count, NoMemory>
     ensures { IfOk result (λ c. c ≡ in_target (pattern_of q.now)) }
 {
@@ -63,7 +63,7 @@ pub fn target(q: &Pattern) -> Result<Count, NoMemory>
 }
 
 /// An argument of a header.
-#[tactic(auto, using(bqn_syntax::specs::grammar::TreeEquations::levels, crate::proofs::Counts::count_laws))]
+#[tactic(auto, using(bqn_syntax::specs::grammar::TreeEquations::tree_equations, crate::proofs::Counts::count_laws))]
 pub fn argument(q: &Option<Pattern>) -> Result<Count, NoMemory>
     ensures { IfOk result (λ c. c ≡ in_argument (option_map pattern_of q.now)) }
 {

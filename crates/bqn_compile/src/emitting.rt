@@ -28,7 +28,7 @@ use bqn_syntax::{Arrow, BlockTree, BodyTree, Derived, Expr, Header, ModUse, Part
 use std::mem;
 
 #[cycle(emit)]
-#[tactic(auto, using(bqn_syntax::specs::grammar::TreeEquations::levels, crate::proofs::Walks::walk_laws))]
+#[tactic(auto, using(bqn_syntax::specs::grammar::TreeEquations::tree_equations, crate::proofs::Walks::walk_laws))]
 fn expr(known: &Known, inside: u32, e: &Expr, out: &mut Walk) -> Result<(), NoMemory>
     ensures { OnOk result (walked out.new ≡ expr_walk (setting_of known.now) (names_of known.now) inside (expr_of e.now) (walked out.old)) }
 {
@@ -60,7 +60,7 @@ fn expr(known: &Known, inside: u32, e: &Expr, out: &mut Walk) -> Result<(), NoMe
 
 /// A value without a part at its end.
 #[cycle(emit)]
-#[tactic(auto, using(bqn_syntax::specs::grammar::TreeEquations::levels, crate::proofs::Walks::walk_laws))]
+#[tactic(auto, using(bqn_syntax::specs::grammar::TreeEquations::tree_equations, crate::proofs::Walks::walk_laws))]
 fn unstarted(known: &Known, inside: u32, all: &[Step], out: &mut Walk) -> Result<(), NoMemory>
     ensures { OnOk result (walked out.new ≡ expr_walk (setting_of known.now) (names_of known.now) inside (Value none (plain_steps (map step_of all.now))) (walked out.old)) }
 {
@@ -93,7 +93,7 @@ fn unstarted(known: &Known, inside: u32, all: &[Step], out: &mut Walk) -> Result
 }
 
 #[cycle(emit)]
-#[tactic(auto, using(bqn_syntax::specs::grammar::TreeEquations::levels, crate::proofs::Walks::walk_laws))]
+#[tactic(auto, using(bqn_syntax::specs::grammar::TreeEquations::tree_equations, crate::proofs::Walks::walk_laws))]
 fn part(known: &Known, inside: u32, x: &Part, out: &mut Walk) -> Result<(), NoMemory>
     ensures { OnOk result (walked out.new ≡ part_walk (setting_of known.now) (names_of known.now) inside (part_of x.now) (walked out.old)) }
 {
@@ -118,7 +118,7 @@ fn part(known: &Known, inside: u32, x: &Part, out: &mut Walk) -> Result<(), NoMe
 
 /// The elements of a list are evaluated from left to right, each of them from right to left.
 #[cycle(emit)]
-#[tactic(auto, using(bqn_syntax::specs::grammar::TreeEquations::levels, crate::proofs::Walks::walk_laws))]
+#[tactic(auto, using(bqn_syntax::specs::grammar::TreeEquations::tree_equations, crate::proofs::Walks::walk_laws))]
 fn list(known: &Known, inside: u32, all: &[Expr], out: &mut Walk) -> Result<(), NoMemory>
     ensures { OnOk result (walked out.new ≡ list_walk (setting_of known.now) (names_of known.now) inside (plain_exprs (map expr_of all.now)) (walked out.old)) }
 {
@@ -132,7 +132,7 @@ fn list(known: &Known, inside: u32, all: &[Expr], out: &mut Walk) -> Result<(), 
 }
 
 #[cycle(emit)]
-#[tactic(auto, using(bqn_syntax::specs::grammar::TreeEquations::levels, crate::proofs::Walks::walk_laws))]
+#[tactic(auto, using(bqn_syntax::specs::grammar::TreeEquations::tree_equations, crate::proofs::Walks::walk_laws))]
 fn strand(known: &Known, inside: u32, all: &[Part], out: &mut Walk) -> Result<(), NoMemory>
     ensures { OnOk result (walked out.new ≡ strand_walk (setting_of known.now) (names_of known.now) inside (plain_parts (map part_of all.now)) (walked out.old)) }
 {
@@ -147,7 +147,7 @@ fn strand(known: &Known, inside: u32, all: &[Part], out: &mut Walk) -> Result<()
 
 /// An expression whose code is done behind what is pushed.
 #[cycle(emit)]
-#[tactic(auto, using(bqn_syntax::specs::grammar::TreeEquations::levels, crate::proofs::Walks::walk_laws))]
+#[tactic(auto, using(bqn_syntax::specs::grammar::TreeEquations::tree_equations, crate::proofs::Walks::walk_laws))]
 fn forward(known: &Known, inside: u32, e: &Expr, out: &mut Walk) -> Result<(), NoMemory>
     ensures { OnOk result (onward out.new ≡ expr_behind (setting_of known.now) (names_of known.now) inside (expr_of e.now) (onward out.old)) }
 {
@@ -158,7 +158,7 @@ fn forward(known: &Known, inside: u32, e: &Expr, out: &mut Walk) -> Result<(), N
 }
 
 #[cycle(emit)]
-#[tactic(auto, using(bqn_syntax::specs::grammar::TreeEquations::levels, crate::proofs::Walks::walk_laws))]
+#[tactic(auto, using(bqn_syntax::specs::grammar::TreeEquations::tree_equations, crate::proofs::Walks::walk_laws))]
 fn forward_part(known: &Known, inside: u32, x: &Part, out: &mut Walk) -> Result<(), NoMemory>
     ensures { OnOk result (onward out.new ≡ part_behind (setting_of known.now) (names_of known.now) inside (part_of x.now) (onward out.old)) }
 {
@@ -170,7 +170,7 @@ fn forward_part(known: &Known, inside: u32, x: &Part, out: &mut Walk) -> Result<
 
 /// The steps stand in the text from the last to the first.
 #[cycle(emit)]
-#[tactic(auto, using(bqn_syntax::specs::grammar::TreeEquations::levels, crate::proofs::Walks::walk_laws))]
+#[tactic(auto, using(bqn_syntax::specs::grammar::TreeEquations::tree_equations, crate::proofs::Walks::walk_laws))]
 fn steps(known: &Known, inside: u32, all: &[Step], out: &mut Walk) -> Result<(), NoMemory>
     ensures { OnOk result (walked out.new ≡ steps_walk (setting_of known.now) (names_of known.now) inside (plain_steps (map step_of all.now)) (walked out.old)) }
 {
@@ -181,7 +181,7 @@ fn steps(known: &Known, inside: u32, all: &[Step], out: &mut Walk) -> Result<(),
 }
 
 #[cycle(emit)]
-#[tactic(auto, using(bqn_syntax::specs::grammar::TreeEquations::levels, crate::proofs::Walks::walk_laws))]
+#[tactic(auto, using(bqn_syntax::specs::grammar::TreeEquations::tree_equations, crate::proofs::Walks::walk_laws))]
 fn step(known: &Known, inside: u32, s: &Step, out: &mut Walk) -> Result<(), NoMemory>
     ensures { OnOk result (walked out.new ≡ step_walk (setting_of known.now) (names_of known.now) inside (step_of s.now) (walked out.old)) }
 {
@@ -213,7 +213,7 @@ fn step(known: &Known, inside: u32, s: &Step, out: &mut Walk) -> Result<(), NoMe
 }
 
 #[cycle(emit)]
-#[tactic(auto, using(bqn_syntax::specs::grammar::TreeEquations::levels, crate::proofs::Walks::walk_laws))]
+#[tactic(auto, using(bqn_syntax::specs::grammar::TreeEquations::tree_equations, crate::proofs::Walks::walk_laws))]
 fn derived(known: &Known, inside: u32, d: &Derived, out: &mut Walk) -> Result<(), NoMemory>
     ensures { OnOk result (walked out.new ≡ derived_walk (setting_of known.now) (names_of known.now) inside (derived_of d.now) (walked out.old)) }
 {
@@ -223,7 +223,7 @@ fn derived(known: &Known, inside: u32, d: &Derived, out: &mut Walk) -> Result<()
 }
 
 #[cycle(emit)]
-#[tactic(auto, using(bqn_syntax::specs::grammar::TreeEquations::levels, crate::proofs::Walks::walk_laws))]
+#[tactic(auto, using(bqn_syntax::specs::grammar::TreeEquations::tree_equations, crate::proofs::Walks::walk_laws))]
 fn mod_uses(known: &Known, inside: u32, all: &[ModUse], out: &mut Walk) -> Result<(), NoMemory>
     ensures { OnOk result (walked out.new ≡ uses_walk (setting_of known.now) (names_of known.now) inside (plain_uses (map use_of all.now)) (walked out.old)) }
 {
@@ -234,7 +234,7 @@ fn mod_uses(known: &Known, inside: u32, all: &[ModUse], out: &mut Walk) -> Resul
 }
 
 #[cycle(emit)]
-#[tactic(auto, using(bqn_syntax::specs::grammar::TreeEquations::levels, crate::proofs::Walks::walk_laws))]
+#[tactic(auto, using(bqn_syntax::specs::grammar::TreeEquations::tree_equations, crate::proofs::Walks::walk_laws))]
 fn mod_use(known: &Known, inside: u32, u: &ModUse, out: &mut Walk) -> Result<(), NoMemory>
     ensures { OnOk result (walked out.new ≡ use_walk (setting_of known.now) (names_of known.now) inside (use_of u.now) (walked out.old)) }
 {
@@ -249,7 +249,7 @@ fn mod_use(known: &Known, inside: u32, u: &ModUse, out: &mut Walk) -> Result<(),
 
 /// The parts of a train, and what is made of them as they are read from the right.
 #[cycle(emit)]
-#[tactic(auto, using(bqn_syntax::specs::grammar::TreeEquations::levels, crate::proofs::Walks::walk_laws))]
+#[tactic(auto, using(bqn_syntax::specs::grammar::TreeEquations::tree_equations, crate::proofs::Walks::walk_laws))]
 fn deriveds(known: &Known, inside: u32, all: &[Derived], out: &mut Walk) -> Result<(), NoMemory>
     ensures { OnOk result (walked out.new ≡ deriveds_walk (setting_of known.now) (names_of known.now) inside (plain_deriveds (map derived_of all.now)) (walked out.old)) }
 {
@@ -264,7 +264,7 @@ fn deriveds(known: &Known, inside: u32, all: &[Derived], out: &mut Walk) -> Resu
 
 /// A block, which stands before those inside it.
 #[cycle(emit)]
-#[tactic(auto, using(bqn_syntax::specs::grammar::TreeEquations::levels, crate::proofs::Walks::walk_laws))]
+#[tactic(auto, using(bqn_syntax::specs::grammar::TreeEquations::tree_equations, crate::proofs::Walks::walk_laws))]
 fn block(known: &Known, inside: u32, b: &BlockTree, out: &mut Walk) -> Result<(), NoMemory>
     ensures { OnOk result (walked out.new ≡ block_walk (setting_of known.now) (names_of known.now) inside (block_of b.now) (walked out.old)) }
 {
@@ -279,7 +279,7 @@ fn block(known: &Known, inside: u32, b: &BlockTree, out: &mut Walk) -> Result<()
 
 /// The bodies of a block, the first of which has this number.
 #[cycle(emit)]
-#[tactic(auto, using(bqn_syntax::specs::grammar::TreeEquations::levels, crate::proofs::Walks::walk_laws))]
+#[tactic(auto, using(bqn_syntax::specs::grammar::TreeEquations::tree_equations, crate::proofs::Walks::walk_laws))]
 fn bodies(
     known: &Known,
     first: u32,
@@ -309,7 +309,7 @@ fn bodies(
 
 /// The body with this number and kind.
 #[cycle(emit)]
-#[tactic(auto, using(bqn_syntax::specs::grammar::TreeEquations::levels, crate::proofs::Walks::walk_laws))]
+#[tactic(auto, using(bqn_syntax::specs::grammar::TreeEquations::tree_equations, crate::proofs::Walks::walk_laws))]
 pub fn body(
     known: &Known,
     number: u32,
@@ -336,7 +336,7 @@ pub fn body(
 
 /// The statements of the body with this number, and its end.
 #[cycle(emit)]
-#[tactic(auto, using(bqn_syntax::specs::grammar::TreeEquations::levels, crate::proofs::Walks::walk_laws, crate::proofs::Onward::stmt_laws))]
+#[tactic(auto, using(bqn_syntax::specs::grammar::TreeEquations::tree_equations, crate::proofs::Walks::walk_laws, crate::proofs::Onward::stmt_laws))]
 fn statements(known: &Known, inside: u32, all: &[Stmt], out: &mut Walk) -> Result<(), NoMemory>
     ensures { OnOk result (onward out.new ≡ stmts_behind (setting_of known.now) (names_of known.now) inside false (stmts_export (plain_stmts (map stmt_of all.now))) (plain_stmts (map stmt_of all.now)) (onward out.old)) }
 {
@@ -349,7 +349,7 @@ fn statements(known: &Known, inside: u32, all: &[Stmt], out: &mut Walk) -> Resul
 
 /// A statement behind one that has left a value, or has not; whether it leaves one.
 #[cycle(emit)]
-#[tactic(auto, using(bqn_syntax::specs::grammar::TreeEquations::levels, crate::proofs::Walks::walk_laws, crate::proofs::Onward::stmt_laws))]
+#[tactic(auto, using(bqn_syntax::specs::grammar::TreeEquations::tree_equations, crate::proofs::Walks::walk_laws, crate::proofs::Onward::stmt_laws))]
 fn statement(
     known: &Known,
     inside: u32,

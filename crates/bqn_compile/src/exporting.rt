@@ -26,7 +26,7 @@ fn targets(all: &[(Token, Arrow)]) -> bool
     false
 }
 
-#[tactic(auto, using(bqn_syntax::specs::grammar::TreeEquations::levels))]
+#[tactic(auto, using(bqn_syntax::specs::grammar::TreeEquations::tree_equations))]
 pub fn statements(all: &[Stmt]) -> bool
     ensures { result ≡ exporting.stmts_export (plain_stmts (map stmt_of all.now)) }
 {
@@ -38,7 +38,7 @@ pub fn statements(all: &[Stmt]) -> bool
     false
 }
 
-#[tactic(auto, using(bqn_syntax::specs::grammar::TreeEquations::levels))]
+#[tactic(auto, using(bqn_syntax::specs::grammar::TreeEquations::tree_equations))]
 fn statement(s: &Stmt) -> bool
     ensures { result ≡ exporting.stmt_exports (stmt_of s.now) }
 {
@@ -49,7 +49,7 @@ fn statement(s: &Stmt) -> bool
 }
 
 #[cycle(exports)]
-#[tactic(auto, using(bqn_syntax::specs::grammar::TreeEquations::levels))]
+#[tactic(auto, using(bqn_syntax::specs::grammar::TreeEquations::tree_equations))]
 fn expr(e: &Expr) -> bool
     ensures { result ≡ exporting.expr_exports (expr_of e.now) }
 {
@@ -74,7 +74,7 @@ fn expr(e: &Expr) -> bool
 }
 
 #[cycle(exports)]
-#[tactic(auto, using(bqn_syntax::specs::grammar::TreeEquations::levels))]
+#[tactic(auto, using(bqn_syntax::specs::grammar::TreeEquations::tree_equations))]
 fn part(x: &Part) -> bool
     ensures { result ≡ exporting.part_exports (part_of x.now) }
 {
@@ -89,7 +89,7 @@ fn part(x: &Part) -> bool
 }
 
 #[cycle(exports)]
-#[tactic(auto, using(bqn_syntax::specs::grammar::TreeEquations::levels))]
+#[tactic(auto, using(bqn_syntax::specs::grammar::TreeEquations::tree_equations))]
 fn steps(all: &[Step]) -> bool
     ensures { result ≡ exporting.steps_export (plain_steps (map step_of all.now)) }
 {
@@ -102,7 +102,7 @@ fn steps(all: &[Step]) -> bool
 }
 
 #[cycle(exports)]
-#[tactic(auto, using(bqn_syntax::specs::grammar::TreeEquations::levels))]
+#[tactic(auto, using(bqn_syntax::specs::grammar::TreeEquations::tree_equations))]
 fn step(s: &Step) -> bool
     ensures { result ≡ exporting.step_exports (step_of s.now) }
 {
@@ -117,7 +117,7 @@ fn step(s: &Step) -> bool
 }
 
 #[cycle(exports)]
-#[tactic(auto, using(bqn_syntax::specs::grammar::TreeEquations::levels))]
+#[tactic(auto, using(bqn_syntax::specs::grammar::TreeEquations::tree_equations))]
 fn derived(d: &Derived) -> bool
     ensures { result ≡ exporting.derived_exports (derived_of d.now) }
 {
@@ -125,7 +125,7 @@ fn derived(d: &Derived) -> bool
 }
 
 #[cycle(exports)]
-#[tactic(auto, using(bqn_syntax::specs::grammar::TreeEquations::levels))]
+#[tactic(auto, using(bqn_syntax::specs::grammar::TreeEquations::tree_equations))]
 fn mod_uses(all: &[ModUse]) -> bool
     ensures { result ≡ exporting.uses_export (plain_uses (map use_of all.now)) }
 {
@@ -138,7 +138,7 @@ fn mod_uses(all: &[ModUse]) -> bool
 }
 
 #[cycle(exports)]
-#[tactic(auto, using(bqn_syntax::specs::grammar::TreeEquations::levels))]
+#[tactic(auto, using(bqn_syntax::specs::grammar::TreeEquations::tree_equations))]
 fn mod_use(u: &ModUse) -> bool
     ensures { result ≡ exporting.use_exports (use_of u.now) }
 {
@@ -149,7 +149,7 @@ fn mod_use(u: &ModUse) -> bool
 }
 
 #[cycle(exports)]
-#[tactic(auto, using(bqn_syntax::specs::grammar::TreeEquations::levels))]
+#[tactic(auto, using(bqn_syntax::specs::grammar::TreeEquations::tree_equations))]
 fn deriveds(all: &[Derived]) -> bool
     ensures { result ≡ exporting.deriveds_export (plain_deriveds (map derived_of all.now)) }
 {
@@ -162,7 +162,7 @@ fn deriveds(all: &[Derived]) -> bool
 }
 
 #[cycle(exports)]
-#[tactic(auto, using(bqn_syntax::specs::grammar::TreeEquations::levels))]
+#[tactic(auto, using(bqn_syntax::specs::grammar::TreeEquations::tree_equations))]
 fn exprs(all: &[Expr]) -> bool
     ensures { result ≡ exporting.exprs_export (plain_exprs (map expr_of all.now)) }
 {
@@ -175,7 +175,7 @@ fn exprs(all: &[Expr]) -> bool
 }
 
 #[cycle(exports)]
-#[tactic(auto, using(bqn_syntax::specs::grammar::TreeEquations::levels))]
+#[tactic(auto, using(bqn_syntax::specs::grammar::TreeEquations::tree_equations))]
 fn parts(all: &[Part]) -> bool
     ensures { result ≡ exporting.parts_export (plain_parts (map part_of all.now)) }
 {

@@ -18,7 +18,7 @@ use bqn_syntax::{
     Token,
 };
 
-#[tactic(auto, using(bqn_syntax::specs::grammar::TreeEquations::levels))]
+#[tactic(auto, using(bqn_syntax::specs::grammar::TreeEquations::tree_equations))]
 fn read(pools: &mut Pools, uses: &[Use], t: &Token) -> Result<(), CompileError>
     ensures { GathersTo result (gathered_shown pools.new) (gather.token gather.the_most (map use_shown uses.now) Reads t.now (gathered_shown pools.old)) }
 {
@@ -28,7 +28,7 @@ fn read(pools: &mut Pools, uses: &[Use], t: &Token) -> Result<(), CompileError>
     }
 }
 
-#[tactic(auto, using(bqn_syntax::specs::grammar::TreeEquations::levels))]
+#[tactic(auto, using(bqn_syntax::specs::grammar::TreeEquations::tree_equations))]
 fn stored(pools: &mut Pools, uses: &[Use], t: &Token, arrow: Arrow) -> Result<(), CompileError>
     ensures { GathersTo result (gathered_shown pools.new) (gather.token gather.the_most (map use_shown uses.now) (by_arrow arrow) t.now (gathered_shown pools.old)) }
 {
@@ -44,7 +44,7 @@ fn stored(pools: &mut Pools, uses: &[Use], t: &Token, arrow: Arrow) -> Result<()
     }
 }
 
-#[tactic(auto, using(bqn_syntax::specs::grammar::TreeEquations::levels))]
+#[tactic(auto, using(bqn_syntax::specs::grammar::TreeEquations::tree_equations))]
 fn pattern_leaf(
     pools: &mut Pools,
     uses: &[Use],
@@ -63,7 +63,7 @@ fn pattern_leaf(
 }
 
 #[cycle(leaves)]
-#[tactic(auto, using(bqn_syntax::specs::grammar::TreeEquations::levels))]
+#[tactic(auto, using(bqn_syntax::specs::grammar::TreeEquations::tree_equations))]
 fn leaves(pools: &mut Pools, uses: &[Use], q: &Pattern, arrow: Arrow) -> Result<(), CompileError>
     ensures { GathersTo result (gathered_shown pools.new) (gather.leaves gather.the_most (map use_shown uses.now) (by_arrow arrow) (pattern_of q.now) (gathered_shown pools.old)) }
 {
@@ -76,7 +76,7 @@ fn leaves(pools: &mut Pools, uses: &[Use], q: &Pattern, arrow: Arrow) -> Result<
 }
 
 #[cycle(leaves)]
-#[tactic(auto, using(bqn_syntax::specs::grammar::TreeEquations::levels))]
+#[tactic(auto, using(bqn_syntax::specs::grammar::TreeEquations::tree_equations))]
 fn all_leaves(
     pools: &mut Pools,
     uses: &[Use],
@@ -91,7 +91,7 @@ fn all_leaves(
     Ok(())
 }
 
-#[tactic(auto, using(bqn_syntax::specs::grammar::TreeEquations::levels))]
+#[tactic(auto, using(bqn_syntax::specs::grammar::TreeEquations::tree_equations))]
 fn pattern(pools: &mut Pools, uses: &[Use], q: &Pattern, arrow: Arrow) -> Result<(), CompileError>
     ensures { GathersTo result (gathered_shown pools.new) (gather.pattern gather.the_most (map use_shown uses.now) (by_arrow arrow) (pattern_of q.now) (gathered_shown pools.old)) }
 {
@@ -102,7 +102,7 @@ fn pattern(pools: &mut Pools, uses: &[Use], q: &Pattern, arrow: Arrow) -> Result
     Ok(())
 }
 
-#[tactic(auto, using(bqn_syntax::specs::grammar::TreeEquations::levels))]
+#[tactic(auto, using(bqn_syntax::specs::grammar::TreeEquations::tree_equations))]
 fn target(pools: &mut Pools, uses: &[Use], q: &Pattern, arrow: Arrow) -> Result<(), CompileError>
     ensures { GathersTo result (gathered_shown pools.new) (gather.target gather.the_most (map use_shown uses.now) (by_arrow arrow) (pattern_of q.now) (gathered_shown pools.old)) }
 {
@@ -113,7 +113,7 @@ fn target(pools: &mut Pools, uses: &[Use], q: &Pattern, arrow: Arrow) -> Result<
     }
 }
 
-#[tactic(auto, using(bqn_syntax::specs::grammar::TreeEquations::levels))]
+#[tactic(auto, using(bqn_syntax::specs::grammar::TreeEquations::tree_equations))]
 fn argument(pools: &mut Pools, uses: &[Use], q: &Option<Pattern>) -> Result<(), CompileError>
     ensures { GathersTo result (gathered_shown pools.new) (gather.argument gather.the_most (map use_shown uses.now) (option_map pattern_of q.now) (gathered_shown pools.old)) }
 {
@@ -130,7 +130,7 @@ fn argument(pools: &mut Pools, uses: &[Use], q: &Option<Pattern>) -> Result<(), 
     }
 }
 
-#[tactic(auto, using(bqn_syntax::specs::grammar::TreeEquations::levels))]
+#[tactic(auto, using(bqn_syntax::specs::grammar::TreeEquations::tree_equations))]
 fn operand(pools: &mut Pools, uses: &[Use], t: &Option<Token>) -> Result<(), CompileError>
     ensures { GathersTo result (gathered_shown pools.new) (gather.operand gather.the_most (map use_shown uses.now) t.now (gathered_shown pools.old)) }
 {
@@ -140,7 +140,7 @@ fn operand(pools: &mut Pools, uses: &[Use], t: &Option<Token>) -> Result<(), Com
     }
 }
 
-#[tactic(auto, using(bqn_syntax::specs::grammar::TreeEquations::levels))]
+#[tactic(auto, using(bqn_syntax::specs::grammar::TreeEquations::tree_equations))]
 fn header(pools: &mut Pools, uses: &[Use], h: &Option<Header>) -> Result<(), CompileError>
     ensures { GathersTo result (gathered_shown pools.new) (gather.header gather.the_most (map use_shown uses.now) (option_map header_of h.now) (gathered_shown pools.old)) }
 {
@@ -154,7 +154,7 @@ fn header(pools: &mut Pools, uses: &[Use], h: &Option<Header>) -> Result<(), Com
     argument(pools, uses, &h.right)
 }
 
-#[tactic(auto, using(bqn_syntax::specs::grammar::TreeEquations::levels))]
+#[tactic(auto, using(bqn_syntax::specs::grammar::TreeEquations::tree_equations))]
 fn targets(pools: &mut Pools, uses: &[Use], all: &[(Token, Arrow)]) -> Result<(), CompileError>
     ensures { GathersTo result (gathered_shown pools.new) (gather.targets gather.the_most (map use_shown uses.now) all.now (gathered_shown pools.old)) }
 {
@@ -165,7 +165,7 @@ fn targets(pools: &mut Pools, uses: &[Use], all: &[(Token, Arrow)]) -> Result<()
 }
 
 #[cycle(gather)]
-#[tactic(auto, using(bqn_syntax::specs::grammar::TreeEquations::levels))]
+#[tactic(auto, using(bqn_syntax::specs::grammar::TreeEquations::tree_equations))]
 fn expr(pools: &mut Pools, uses: &[Use], e: &Expr) -> Result<(), CompileError>
     ensures { GathersTo result (gathered_shown pools.new) (gather.expr gather.the_most (map use_shown uses.now) (expr_of e.now) (gathered_shown pools.old)) }
 {
@@ -195,7 +195,7 @@ fn expr(pools: &mut Pools, uses: &[Use], e: &Expr) -> Result<(), CompileError>
 }
 
 #[cycle(gather)]
-#[tactic(auto, using(bqn_syntax::specs::grammar::TreeEquations::levels))]
+#[tactic(auto, using(bqn_syntax::specs::grammar::TreeEquations::tree_equations))]
 fn part(pools: &mut Pools, uses: &[Use], x: &Part) -> Result<(), CompileError>
     ensures { GathersTo result (gathered_shown pools.new) (gather.part gather.the_most (map use_shown uses.now) (part_of x.now) (gathered_shown pools.old)) }
 {
@@ -215,7 +215,7 @@ fn part(pools: &mut Pools, uses: &[Use], x: &Part) -> Result<(), CompileError>
 }
 
 #[cycle(gather)]
-#[tactic(auto, using(bqn_syntax::specs::grammar::TreeEquations::levels))]
+#[tactic(auto, using(bqn_syntax::specs::grammar::TreeEquations::tree_equations))]
 fn block(pools: &mut Pools, uses: &[Use], b: &BlockTree) -> Result<(), CompileError>
     ensures { GathersTo result (gathered_shown pools.new) (gather.block_tree gather.the_most (map use_shown uses.now) (block_of b.now) (gathered_shown pools.old)) }
 {
@@ -224,7 +224,7 @@ fn block(pools: &mut Pools, uses: &[Use], b: &BlockTree) -> Result<(), CompileEr
 }
 
 #[cycle(gather)]
-#[tactic(auto, using(bqn_syntax::specs::grammar::TreeEquations::levels, crate::proofs::Gathered::step_laws))]
+#[tactic(auto, using(bqn_syntax::specs::grammar::TreeEquations::tree_equations, crate::proofs::Gathered::step_laws))]
 fn steps(pools: &mut Pools, uses: &[Use], all: &[Step]) -> Result<(), CompileError>
     ensures { GathersTo result (gathered_shown pools.new) (gather.steps gather.the_most (map use_shown uses.now) (plain_steps (map step_of all.now)) (gathered_shown pools.old)) }
 {
@@ -235,7 +235,7 @@ fn steps(pools: &mut Pools, uses: &[Use], all: &[Step]) -> Result<(), CompileErr
 }
 
 #[cycle(gather)]
-#[tactic(auto, using(bqn_syntax::specs::grammar::TreeEquations::levels))]
+#[tactic(auto, using(bqn_syntax::specs::grammar::TreeEquations::tree_equations))]
 fn step(pools: &mut Pools, uses: &[Use], s: &Step) -> Result<(), CompileError>
     ensures { GathersTo result (gathered_shown pools.new) (gather.step gather.the_most (map use_shown uses.now) (step_of s.now) (gathered_shown pools.old)) }
 {
@@ -259,7 +259,7 @@ fn step(pools: &mut Pools, uses: &[Use], s: &Step) -> Result<(), CompileError>
 }
 
 #[cycle(gather)]
-#[tactic(auto, using(bqn_syntax::specs::grammar::TreeEquations::levels))]
+#[tactic(auto, using(bqn_syntax::specs::grammar::TreeEquations::tree_equations))]
 fn derived(pools: &mut Pools, uses: &[Use], d: &Derived) -> Result<(), CompileError>
     ensures { GathersTo result (gathered_shown pools.new) (gather.derived_part gather.the_most (map use_shown uses.now) (derived_of d.now) (gathered_shown pools.old)) }
 {
@@ -268,7 +268,7 @@ fn derived(pools: &mut Pools, uses: &[Use], d: &Derived) -> Result<(), CompileEr
 }
 
 #[cycle(gather)]
-#[tactic(auto, using(bqn_syntax::specs::grammar::TreeEquations::levels))]
+#[tactic(auto, using(bqn_syntax::specs::grammar::TreeEquations::tree_equations))]
 fn mod_uses(pools: &mut Pools, uses: &[Use], all: &[ModUse]) -> Result<(), CompileError>
     ensures { GathersTo result (gathered_shown pools.new) (gather.mod_uses gather.the_most (map use_shown uses.now) (plain_uses (map use_of all.now)) (gathered_shown pools.old)) }
 {
@@ -279,7 +279,7 @@ fn mod_uses(pools: &mut Pools, uses: &[Use], all: &[ModUse]) -> Result<(), Compi
 }
 
 #[cycle(gather)]
-#[tactic(auto, using(bqn_syntax::specs::grammar::TreeEquations::levels))]
+#[tactic(auto, using(bqn_syntax::specs::grammar::TreeEquations::tree_equations))]
 fn mod_use(pools: &mut Pools, uses: &[Use], u: &ModUse) -> Result<(), CompileError>
     ensures { GathersTo result (gathered_shown pools.new) (gather.mod_use gather.the_most (map use_shown uses.now) (use_of u.now) (gathered_shown pools.old)) }
 {
@@ -293,7 +293,7 @@ fn mod_use(pools: &mut Pools, uses: &[Use], u: &ModUse) -> Result<(), CompileErr
 }
 
 #[cycle(gather)]
-#[tactic(auto, using(bqn_syntax::specs::grammar::TreeEquations::levels))]
+#[tactic(auto, using(bqn_syntax::specs::grammar::TreeEquations::tree_equations))]
 fn deriveds(pools: &mut Pools, uses: &[Use], all: &[Derived]) -> Result<(), CompileError>
     ensures { GathersTo result (gathered_shown pools.new) (gather.deriveds gather.the_most (map use_shown uses.now) (plain_deriveds (map derived_of all.now)) (gathered_shown pools.old)) }
 {
@@ -304,7 +304,7 @@ fn deriveds(pools: &mut Pools, uses: &[Use], all: &[Derived]) -> Result<(), Comp
 }
 
 #[cycle(gather)]
-#[tactic(auto, using(bqn_syntax::specs::grammar::TreeEquations::levels))]
+#[tactic(auto, using(bqn_syntax::specs::grammar::TreeEquations::tree_equations))]
 fn exprs(pools: &mut Pools, uses: &[Use], all: &[Expr]) -> Result<(), CompileError>
     ensures { GathersTo result (gathered_shown pools.new) (gather.exprs gather.the_most (map use_shown uses.now) (plain_exprs (map expr_of all.now)) (gathered_shown pools.old)) }
 {
@@ -315,7 +315,7 @@ fn exprs(pools: &mut Pools, uses: &[Use], all: &[Expr]) -> Result<(), CompileErr
 }
 
 #[cycle(gather)]
-#[tactic(auto, using(bqn_syntax::specs::grammar::TreeEquations::levels))]
+#[tactic(auto, using(bqn_syntax::specs::grammar::TreeEquations::tree_equations))]
 fn parts(pools: &mut Pools, uses: &[Use], all: &[Part]) -> Result<(), CompileError>
     ensures { GathersTo result (gathered_shown pools.new) (gather.parts gather.the_most (map use_shown uses.now) (plain_parts (map part_of all.now)) (gathered_shown pools.old)) }
 {
@@ -326,7 +326,7 @@ fn parts(pools: &mut Pools, uses: &[Use], all: &[Part]) -> Result<(), CompileErr
 }
 
 #[cycle(gather)]
-#[tactic(auto, using(bqn_syntax::specs::grammar::TreeEquations::levels))]
+#[tactic(auto, using(bqn_syntax::specs::grammar::TreeEquations::tree_equations))]
 pub fn stmts(pools: &mut Pools, uses: &[Use], all: &[Stmt]) -> Result<(), CompileError>
     ensures { GathersTo result (gathered_shown pools.new) (gather.stmts gather.the_most (map use_shown uses.now) (plain_stmts (map stmt_of all.now)) (gathered_shown pools.old)) }
 {
@@ -337,7 +337,7 @@ pub fn stmts(pools: &mut Pools, uses: &[Use], all: &[Stmt]) -> Result<(), Compil
 }
 
 #[cycle(gather)]
-#[tactic(auto, using(bqn_syntax::specs::grammar::TreeEquations::levels))]
+#[tactic(auto, using(bqn_syntax::specs::grammar::TreeEquations::tree_equations))]
 fn stmt(pools: &mut Pools, uses: &[Use], s: &Stmt) -> Result<(), CompileError>
     ensures { GathersTo result (gathered_shown pools.new) (gather.stmt gather.the_most (map use_shown uses.now) (stmt_of s.now) (gathered_shown pools.old)) }
 {
@@ -348,7 +348,7 @@ fn stmt(pools: &mut Pools, uses: &[Use], s: &Stmt) -> Result<(), CompileError>
 }
 
 #[cycle(gather)]
-#[tactic(auto, using(bqn_syntax::specs::grammar::TreeEquations::levels))]
+#[tactic(auto, using(bqn_syntax::specs::grammar::TreeEquations::tree_equations))]
 fn bodies(pools: &mut Pools, uses: &[Use], all: &[BodyTree]) -> Result<(), CompileError>
     ensures { GathersTo result (gathered_shown pools.new) (gather.bodies gather.the_most (map use_shown uses.now) (plain_bodies (map body_of all.now)) (gathered_shown pools.old)) }
 {
@@ -359,7 +359,7 @@ fn bodies(pools: &mut Pools, uses: &[Use], all: &[BodyTree]) -> Result<(), Compi
 }
 
 #[cycle(gather)]
-#[tactic(auto, using(bqn_syntax::specs::grammar::TreeEquations::levels))]
+#[tactic(auto, using(bqn_syntax::specs::grammar::TreeEquations::tree_equations))]
 fn body(pools: &mut Pools, uses: &[Use], b: &BodyTree) -> Result<(), CompileError>
     ensures { GathersTo result (gathered_shown pools.new) (gather.body_tree gather.the_most (map use_shown uses.now) (body_of b.now) (gathered_shown pools.old)) }
 {

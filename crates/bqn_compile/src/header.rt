@@ -30,7 +30,7 @@ fn asks_for(q: &Pattern) -> bool
 }
 
 /// Pushes an argument and matches it by the pattern with this number.
-#[tactic(auto, using(bqn_syntax::specs::grammar::TreeEquations::levels, crate::proofs::Headers::header_laws))]
+#[tactic(auto, using(bqn_syntax::specs::grammar::TreeEquations::tree_equations, crate::proofs::Headers::header_laws))]
 fn matched(i: Instr, number: u32, q: &Option<Pattern>, out: &mut Walk) -> Result<(), NoMemory>
     ensures { OnOk result (onward out.new ≡ append (argument_code i number (option_map pattern_of q.now)) (onward out.old)) }
 {

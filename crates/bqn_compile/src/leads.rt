@@ -19,7 +19,7 @@ pub fn or_else(inherited: Place, own: Option<Place>) -> Place
 }
 
 #[cycle(pattern_lead)]
-#[tactic(auto, using(bqn_syntax::specs::grammar::TreeEquations::levels))]
+#[tactic(auto, using(bqn_syntax::specs::grammar::TreeEquations::tree_equations))]
 pub fn pattern(q: &Pattern) -> Option<Place>
     ensures { result ≡ lead.pattern_lead (pattern_of q.now) }
 {
@@ -32,7 +32,7 @@ pub fn pattern(q: &Pattern) -> Option<Place>
 }
 
 #[cycle(pattern_lead)]
-#[tactic(auto, using(bqn_syntax::specs::grammar::TreeEquations::levels))]
+#[tactic(auto, using(bqn_syntax::specs::grammar::TreeEquations::tree_equations))]
 fn patterns(all: &[Pattern]) -> Option<Place>
     ensures { result ≡ lead.patterns_lead (plain_patterns (map pattern_of all.now)) }
 {
@@ -63,7 +63,7 @@ fn targets(all: &[(Token, Arrow)]) -> Option<Place>
 }
 
 #[cycle(leads)]
-#[tactic(auto, using(bqn_syntax::specs::grammar::TreeEquations::levels))]
+#[tactic(auto, using(bqn_syntax::specs::grammar::TreeEquations::tree_equations))]
 pub fn expr(e: &Expr) -> Option<Place>
     ensures { result ≡ lead.expr_lead (expr_of e.now) }
 {
@@ -93,7 +93,7 @@ pub fn expr(e: &Expr) -> Option<Place>
 }
 
 #[cycle(leads)]
-#[tactic(auto, using(bqn_syntax::specs::grammar::TreeEquations::levels))]
+#[tactic(auto, using(bqn_syntax::specs::grammar::TreeEquations::tree_equations))]
 pub fn part(x: &Part) -> Option<Place>
     ensures { result ≡ lead.part_lead (part_of x.now) }
 {
@@ -117,7 +117,7 @@ pub fn part(x: &Part) -> Option<Place>
 
 /// Of the steps the last stands first.
 #[cycle(leads)]
-#[tactic(auto, using(bqn_syntax::specs::grammar::TreeEquations::levels))]
+#[tactic(auto, using(bqn_syntax::specs::grammar::TreeEquations::tree_equations))]
 fn steps(all: &[Step]) -> Option<Place>
     ensures { result ≡ lead.steps_lead (plain_steps (map step_of all.now)) }
 {
@@ -131,7 +131,7 @@ fn steps(all: &[Step]) -> Option<Place>
 }
 
 #[cycle(leads)]
-#[tactic(auto, using(bqn_syntax::specs::grammar::TreeEquations::levels))]
+#[tactic(auto, using(bqn_syntax::specs::grammar::TreeEquations::tree_equations))]
 fn step(s: &Step) -> Option<Place>
     ensures { result ≡ lead.step_lead (step_of s.now) }
 {
@@ -152,7 +152,7 @@ fn step(s: &Step) -> Option<Place>
 }
 
 #[cycle(leads)]
-#[tactic(auto, using(bqn_syntax::specs::grammar::TreeEquations::levels))]
+#[tactic(auto, using(bqn_syntax::specs::grammar::TreeEquations::tree_equations))]
 pub fn derived(d: &Derived) -> Option<Place>
     ensures { result ≡ lead.derived_lead (derived_of d.now) }
 {
@@ -163,7 +163,7 @@ pub fn derived(d: &Derived) -> Option<Place>
 }
 
 #[cycle(leads)]
-#[tactic(auto, using(bqn_syntax::specs::grammar::TreeEquations::levels))]
+#[tactic(auto, using(bqn_syntax::specs::grammar::TreeEquations::tree_equations))]
 fn mod_uses(all: &[ModUse]) -> Option<Place>
     ensures { result ≡ lead.uses_lead (plain_uses (map use_of all.now)) }
 {
@@ -176,7 +176,7 @@ fn mod_uses(all: &[ModUse]) -> Option<Place>
 }
 
 #[cycle(leads)]
-#[tactic(auto, using(bqn_syntax::specs::grammar::TreeEquations::levels))]
+#[tactic(auto, using(bqn_syntax::specs::grammar::TreeEquations::tree_equations))]
 fn mod_use(u: &ModUse) -> Option<Place>
     ensures { result ≡ lead.use_lead (use_of u.now) }
 {
@@ -190,7 +190,7 @@ fn mod_use(u: &ModUse) -> Option<Place>
 }
 
 #[cycle(leads)]
-#[tactic(auto, using(bqn_syntax::specs::grammar::TreeEquations::levels))]
+#[tactic(auto, using(bqn_syntax::specs::grammar::TreeEquations::tree_equations))]
 pub fn deriveds(all: &[Derived]) -> Option<Place>
     ensures { result ≡ lead.deriveds_lead (plain_deriveds (map derived_of all.now)) }
 {
@@ -203,7 +203,7 @@ pub fn deriveds(all: &[Derived]) -> Option<Place>
 }
 
 #[cycle(leads)]
-#[tactic(auto, using(bqn_syntax::specs::grammar::TreeEquations::levels))]
+#[tactic(auto, using(bqn_syntax::specs::grammar::TreeEquations::tree_equations))]
 pub fn exprs(all: &[Expr]) -> Option<Place>
     ensures { result ≡ lead.exprs_lead (plain_exprs (map expr_of all.now)) }
 {
@@ -216,7 +216,7 @@ pub fn exprs(all: &[Expr]) -> Option<Place>
 }
 
 #[cycle(leads)]
-#[tactic(auto, using(bqn_syntax::specs::grammar::TreeEquations::levels))]
+#[tactic(auto, using(bqn_syntax::specs::grammar::TreeEquations::tree_equations))]
 pub fn parts(all: &[Part]) -> Option<Place>
     ensures { result ≡ lead.parts_lead (plain_parts (map part_of all.now)) }
 {
@@ -229,7 +229,7 @@ pub fn parts(all: &[Part]) -> Option<Place>
 }
 
 /// The lead of a statement; one without a leaf has none.
-#[tactic(auto, using(bqn_syntax::specs::grammar::TreeEquations::levels))]
+#[tactic(auto, using(bqn_syntax::specs::grammar::TreeEquations::tree_equations))]
 pub fn statement(s: &Stmt) -> Place
     ensures { result ≡ lead.stmt_lead (stmt_of s.now) }
 {
@@ -241,7 +241,7 @@ pub fn statement(s: &Stmt) -> Place
 }
 
 /// The lead of a header, in the order of the text.
-#[tactic(auto, using(bqn_syntax::specs::grammar::TreeEquations::levels))]
+#[tactic(auto, using(bqn_syntax::specs::grammar::TreeEquations::tree_equations))]
 pub fn header(h: &Header) -> Place
     ensures { result ≡ lead.header_lead (header_of h.now) }
 {

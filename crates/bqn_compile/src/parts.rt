@@ -38,7 +38,7 @@ pub fn fields(known: &Known, all: &[Token], out: &mut Walk) -> Result<(), NoMemo
     Ok(())
 }
 
-#[tactic(auto, using(bqn_syntax::specs::grammar::TreeEquations::levels))]
+#[tactic(auto, using(bqn_syntax::specs::grammar::TreeEquations::tree_equations))]
 fn derived_instr(u: &ModUse) -> Instr
     ensures { result ≡ derive_instr (use_of u.now) }
 {
@@ -49,7 +49,7 @@ fn derived_instr(u: &ModUse) -> Instr
 }
 
 /// What the modifiers behind a part make, once all parts are there.
-#[tactic(auto, using(bqn_syntax::specs::grammar::TreeEquations::levels, crate::proofs::Walks::push_laws))]
+#[tactic(auto, using(bqn_syntax::specs::grammar::TreeEquations::tree_equations, crate::proofs::Walks::push_laws))]
 pub fn derive(all: &[ModUse], out: &mut Walk) -> Result<(), NoMemory>
     ensures { OnOk result (walked out.new ≡ pushes (derives (plain_uses (map use_of all.now))) (walked out.old)) }
 {

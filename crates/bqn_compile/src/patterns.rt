@@ -21,7 +21,7 @@ use bqn_scope::Use;
 use bqn_syntax::{Arrow, Kind, Pattern, Token};
 
 /// A leaf that is stored into, whose use has this number.
-#[tactic(auto, using(bqn_code::specs::PatternEquations::levels))]
+#[tactic(auto, using(bqn_code::specs::PatternEquations::pattern_equations))]
 fn stored_leaf(
     pools: &Pools,
     uses: &[Use],
@@ -50,7 +50,7 @@ fn stored_leaf(
     }
 }
 
-#[tactic(auto, using(bqn_code::specs::PatternEquations::levels))]
+#[tactic(auto, using(bqn_code::specs::PatternEquations::pattern_equations))]
 fn literal_leaf(pools: &Pools, kind: &Kind) -> Result<PatternCode, Memory>
     ensures { IfOk result (λ p. pattern_of p ≡ literal_code (constants_shown pools.now.constants.keys) (constant_of kind.now)) }
 {
@@ -82,7 +82,7 @@ fn pass(number: &mut u32, kind: &Kind) -> Result<(), Memory>
 /// A pattern whose first use has this number, once its leaves are pooled. The number goes past its
 /// uses.
 #[cycle(pattern_code)]
-#[tactic(auto, using(bqn_syntax::specs::grammar::TreeEquations::levels, bqn_code::specs::PatternEquations::levels))]
+#[tactic(auto, using(bqn_syntax::specs::grammar::TreeEquations::tree_equations, bqn_code::specs::PatternEquations::pattern_equations))]
 pub fn pattern_code(
     pools: &Pools,
     uses: &[Use],
@@ -107,7 +107,7 @@ pub fn pattern_code(
 }
 
 #[cycle(pattern_code)]
-#[tactic(auto, using(bqn_syntax::specs::grammar::TreeEquations::levels, bqn_code::specs::PatternEquations::levels))]
+#[tactic(auto, using(bqn_syntax::specs::grammar::TreeEquations::tree_equations, bqn_code::specs::PatternEquations::pattern_equations))]
 fn list_code(
     pools: &Pools,
     uses: &[Use],

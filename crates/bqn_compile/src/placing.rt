@@ -51,7 +51,7 @@ fn fields(all: &[Token], out: &mut Vec<Place>) -> Result<(), AllocError>
     Ok(())
 }
 
-#[tactic(auto, using(bqn_syntax::specs::grammar::TreeEquations::levels))]
+#[tactic(auto, using(bqn_syntax::specs::grammar::TreeEquations::tree_equations))]
 fn modifier_lead(u: &ModUse) -> Option<Place>
     ensures { result ≡ lead_in (use_of u.now) }
 {
@@ -61,7 +61,7 @@ fn modifier_lead(u: &ModUse) -> Option<Place>
     }
 }
 
-#[tactic(auto, using(bqn_syntax::specs::grammar::TreeEquations::levels, crate::proofs::Placings::placing_laws))]
+#[tactic(auto, using(bqn_syntax::specs::grammar::TreeEquations::tree_equations, crate::proofs::Placings::placing_laws))]
 fn derives(lead: Place, all: &[ModUse], out: &mut Vec<Place>) -> Result<(), AllocError>
     ensures { OnOk result (out.new.items ≡ out.old.items ++ placing.derives_places lead (plain_uses (map use_of all.now))) }
 {
@@ -72,7 +72,7 @@ fn derives(lead: Place, all: &[ModUse], out: &mut Vec<Place>) -> Result<(), Allo
 }
 
 #[cycle(placing)]
-#[tactic(auto, using(bqn_syntax::specs::grammar::TreeEquations::levels, crate::proofs::Placings::placing_laws))]
+#[tactic(auto, using(bqn_syntax::specs::grammar::TreeEquations::tree_equations, crate::proofs::Placings::placing_laws))]
 fn part(lead: Place, x: &Part, out: &mut Vec<Place>) -> Result<(), AllocError>
     ensures { OnOk result (out.new.items ≡ out.old.items ++ placing.part_places lead (part_of x.now)) }
 {
@@ -107,7 +107,7 @@ fn part(lead: Place, x: &Part, out: &mut Vec<Place>) -> Result<(), AllocError>
 }
 
 #[cycle(placing)]
-#[tactic(auto, using(bqn_syntax::specs::grammar::TreeEquations::levels, crate::proofs::Placings::placing_laws))]
+#[tactic(auto, using(bqn_syntax::specs::grammar::TreeEquations::tree_equations, crate::proofs::Placings::placing_laws))]
 pub fn expr(lead: Place, e: &Expr, out: &mut Vec<Place>) -> Result<(), AllocError>
     ensures { OnOk result (out.new.items ≡ out.old.items ++ placing.expr_places lead (expr_of e.now)) }
 {
@@ -149,7 +149,7 @@ fn targets(all: &[(Token, Arrow)], out: &mut Vec<Place>) -> Result<(), AllocErro
 }
 
 #[cycle(placing)]
-#[tactic(auto, using(bqn_syntax::specs::grammar::TreeEquations::levels, crate::proofs::Placings::placing_laws))]
+#[tactic(auto, using(bqn_syntax::specs::grammar::TreeEquations::tree_equations, crate::proofs::Placings::placing_laws))]
 fn unstarted(lead: Place, all: &[Step], out: &mut Vec<Place>) -> Result<(), AllocError>
     ensures { OnOk result (out.new.items ≡ out.old.items ++ placing.expr_places lead (Value none (plain_steps (map step_of all.now)))) }
 {
@@ -176,7 +176,7 @@ fn unstarted(lead: Place, all: &[Step], out: &mut Vec<Place>) -> Result<(), Allo
 }
 
 #[cycle(placing)]
-#[tactic(auto, using(bqn_syntax::specs::grammar::TreeEquations::levels, crate::proofs::Placings::placing_laws))]
+#[tactic(auto, using(bqn_syntax::specs::grammar::TreeEquations::tree_equations, crate::proofs::Placings::placing_laws))]
 fn steps(lead: Place, all: &[Step], out: &mut Vec<Place>) -> Result<(), AllocError>
     ensures { OnOk result (out.new.items ≡ out.old.items ++ placing.steps_places lead (plain_steps (map step_of all.now))) }
 {
@@ -187,7 +187,7 @@ fn steps(lead: Place, all: &[Step], out: &mut Vec<Place>) -> Result<(), AllocErr
 }
 
 #[cycle(placing)]
-#[tactic(auto, using(bqn_syntax::specs::grammar::TreeEquations::levels, crate::proofs::Placings::placing_laws))]
+#[tactic(auto, using(bqn_syntax::specs::grammar::TreeEquations::tree_equations, crate::proofs::Placings::placing_laws))]
 fn step(lead: Place, s: &Step, out: &mut Vec<Place>) -> Result<(), AllocError>
     ensures { OnOk result (out.new.items ≡ out.old.items ++ placing.step_places lead (step_of s.now)) }
 {
@@ -211,7 +211,7 @@ fn step(lead: Place, s: &Step, out: &mut Vec<Place>) -> Result<(), AllocError>
 }
 
 #[cycle(placing)]
-#[tactic(auto, using(bqn_syntax::specs::grammar::TreeEquations::levels, crate::proofs::Placings::placing_laws))]
+#[tactic(auto, using(bqn_syntax::specs::grammar::TreeEquations::tree_equations, crate::proofs::Placings::placing_laws))]
 fn derived(lead: Place, d: &Derived, out: &mut Vec<Place>) -> Result<(), AllocError>
     ensures { OnOk result (out.new.items ≡ out.old.items ++ placing.derived_places lead (derived_of d.now)) }
 {
@@ -222,7 +222,7 @@ fn derived(lead: Place, d: &Derived, out: &mut Vec<Place>) -> Result<(), AllocEr
 
 /// The last modifier is the outermost.
 #[cycle(placing)]
-#[tactic(auto, using(bqn_syntax::specs::grammar::TreeEquations::levels, crate::proofs::Placings::placing_laws))]
+#[tactic(auto, using(bqn_syntax::specs::grammar::TreeEquations::tree_equations, crate::proofs::Placings::placing_laws))]
 fn mod_uses(lead: Place, all: &[ModUse], out: &mut Vec<Place>) -> Result<(), AllocError>
     ensures { OnOk result (out.new.items ≡ out.old.items ++ placing.uses_places lead (plain_uses (map use_of all.now))) }
 {
@@ -233,7 +233,7 @@ fn mod_uses(lead: Place, all: &[ModUse], out: &mut Vec<Place>) -> Result<(), All
 }
 
 #[cycle(placing)]
-#[tactic(auto, using(bqn_syntax::specs::grammar::TreeEquations::levels, crate::proofs::Placings::placing_laws))]
+#[tactic(auto, using(bqn_syntax::specs::grammar::TreeEquations::tree_equations, crate::proofs::Placings::placing_laws))]
 fn mod_use(lead: Place, u: &ModUse, out: &mut Vec<Place>) -> Result<(), AllocError>
     ensures { OnOk result (out.new.items ≡ out.old.items ++ placing.use_places lead (use_of u.now)) }
 {
@@ -248,7 +248,7 @@ fn mod_use(lead: Place, u: &ModUse, out: &mut Vec<Place>) -> Result<(), AllocErr
 
 /// The parts of a train from the right.
 #[cycle(placing)]
-#[tactic(auto, using(bqn_syntax::specs::grammar::TreeEquations::levels, crate::proofs::Placings::placing_laws))]
+#[tactic(auto, using(bqn_syntax::specs::grammar::TreeEquations::tree_equations, crate::proofs::Placings::placing_laws))]
 fn deriveds(lead: Place, all: &[Derived], out: &mut Vec<Place>) -> Result<Read, AllocError>
     ensures places { OnOk result (out.new.items ≡ out.old.items ++ placing.deriveds_places lead (plain_deriveds (map derived_of all.now))) }
     ensures read { IfOk result (λ r. r ≡ parts_read (plain_deriveds (map derived_of all.now))) }
@@ -263,7 +263,7 @@ fn deriveds(lead: Place, all: &[Derived], out: &mut Vec<Place>) -> Result<Read, 
 }
 
 #[cycle(placing)]
-#[tactic(auto, using(bqn_syntax::specs::grammar::TreeEquations::levels, crate::proofs::Placings::placing_laws))]
+#[tactic(auto, using(bqn_syntax::specs::grammar::TreeEquations::tree_equations, crate::proofs::Placings::placing_laws))]
 fn exprs(lead: Place, all: &[Expr], out: &mut Vec<Place>) -> Result<(), AllocError>
     ensures { OnOk result (out.new.items ≡ out.old.items ++ placing.exprs_places lead (plain_exprs (map expr_of all.now))) }
 {
@@ -274,7 +274,7 @@ fn exprs(lead: Place, all: &[Expr], out: &mut Vec<Place>) -> Result<(), AllocErr
 }
 
 #[cycle(placing)]
-#[tactic(auto, using(bqn_syntax::specs::grammar::TreeEquations::levels, crate::proofs::Placings::placing_laws))]
+#[tactic(auto, using(bqn_syntax::specs::grammar::TreeEquations::tree_equations, crate::proofs::Placings::placing_laws))]
 fn parts(lead: Place, all: &[Part], out: &mut Vec<Place>) -> Result<(), AllocError>
     ensures { OnOk result (out.new.items ≡ out.old.items ++ placing.parts_places lead (plain_parts (map part_of all.now))) }
 {
@@ -284,7 +284,7 @@ fn parts(lead: Place, all: &[Part], out: &mut Vec<Place>) -> Result<(), AllocErr
     Ok(())
 }
 
-#[tactic(auto, using(bqn_syntax::specs::grammar::TreeEquations::levels, crate::proofs::Placings::placing_laws))]
+#[tactic(auto, using(bqn_syntax::specs::grammar::TreeEquations::tree_equations, crate::proofs::Placings::placing_laws))]
 fn matched(place: Place, out: &mut Vec<Place>) -> Result<(), AllocError>
     ensures { OnOk result (out.new.items ≡ out.old.items ++ place ∷ place ∷ []) }
 {
@@ -292,7 +292,7 @@ fn matched(place: Place, out: &mut Vec<Place>) -> Result<(), AllocError>
     push(out, place)
 }
 
-#[tactic(auto, using(bqn_syntax::specs::grammar::TreeEquations::levels, crate::proofs::Placings::placing_laws))]
+#[tactic(auto, using(bqn_syntax::specs::grammar::TreeEquations::tree_equations, crate::proofs::Placings::placing_laws))]
 fn argument(lead: Place, q: &Option<Pattern>, out: &mut Vec<Place>) -> Result<(), AllocError>
     ensures { OnOk result (out.new.items ≡ out.old.items ++ placing.argument_places lead (option_map pattern_of q.now)) }
 {
@@ -331,7 +331,7 @@ fn operand(t: &Option<Token>, out: &mut Vec<Place>) -> Result<(), AllocError>
     }
 }
 
-#[tactic(auto, using(bqn_syntax::specs::grammar::TreeEquations::levels, crate::proofs::Placings::placing_laws))]
+#[tactic(auto, using(bqn_syntax::specs::grammar::TreeEquations::tree_equations, crate::proofs::Placings::placing_laws))]
 pub fn header(h: &Option<Header>, out: &mut Vec<Place>) -> Result<(), AllocError>
     ensures { OnOk result (out.new.items ≡ out.old.items ++ placing.header_places (option_map header_of h.now)) }
 {
@@ -364,7 +364,7 @@ fn end(exports: bool, left: bool, place: Place, out: &mut Vec<Place>) -> Result<
 }
 
 /// What a statement has by itself; whether it leaves a value.
-#[tactic(auto, using(bqn_syntax::specs::grammar::TreeEquations::levels, crate::proofs::Placings::placing_laws))]
+#[tactic(auto, using(bqn_syntax::specs::grammar::TreeEquations::tree_equations, crate::proofs::Placings::placing_laws))]
 fn statement(lead: Place, s: &Stmt, out: &mut Vec<Place>) -> Result<bool, AllocError>
     ensures places { OnOk result (out.new.items ≡ out.old.items ++ placing.own_places lead (stmt_of s.now)) }
     ensures leaves { IfOk result (λ b. b ≡ placing.leaves_one (stmt_of s.now)) }
@@ -383,7 +383,7 @@ fn statement(lead: Place, s: &Stmt, out: &mut Vec<Place>) -> Result<bool, AllocE
     }
 }
 
-#[tactic(auto, using(bqn_syntax::specs::grammar::TreeEquations::levels, crate::proofs::Placings::placing_laws))]
+#[tactic(auto, using(bqn_syntax::specs::grammar::TreeEquations::tree_equations, crate::proofs::Placings::placing_laws))]
 pub fn statements(exports: bool, all: &[Stmt], out: &mut Vec<Place>) -> Result<(), AllocError>
     ensures { OnOk result (out.new.items ≡ out.old.items ++ placing.rest_places exports false start (plain_stmts (map stmt_of all.now))) }
 {

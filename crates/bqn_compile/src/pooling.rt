@@ -122,7 +122,7 @@ pub fn fields(pools: &mut Pools, names: &[Token]) -> Result<(), CompileError>
 
 /// The names that are exported without a value.
 #[cycle(shown)]
-#[tactic(auto, using(bqn_syntax::specs::grammar::TreeEquations::levels))]
+#[tactic(auto, using(bqn_syntax::specs::grammar::TreeEquations::tree_equations))]
 pub fn shown(pools: &mut Pools, q: &Pattern) -> Result<(), CompileError>
     ensures { GathersTo result (gathered_shown pools.new) (gather.shown (pattern_of q.now) (gathered_shown pools.old)) }
 {
@@ -135,7 +135,7 @@ pub fn shown(pools: &mut Pools, q: &Pattern) -> Result<(), CompileError>
 }
 
 #[cycle(shown)]
-#[tactic(auto, using(bqn_syntax::specs::grammar::TreeEquations::levels))]
+#[tactic(auto, using(bqn_syntax::specs::grammar::TreeEquations::tree_equations))]
 fn all_shown(pools: &mut Pools, all: &[Pattern]) -> Result<(), CompileError>
     ensures { GathersTo result (gathered_shown pools.new) (gather.all_shown (plain_patterns (map pattern_of all.now)) (gathered_shown pools.old)) }
 {

@@ -128,7 +128,7 @@ pub fn token(known: &Known, t: &Token, out: &mut Walk) -> Result<(), NoMemory>
 }
 
 /// The target of an arrow.
-#[tactic(auto, using(bqn_syntax::specs::grammar::TreeEquations::levels, crate::proofs::Walks::push_laws), unfolding(crate::specs::Walking::setting_of, crate::specs::Walking::target_walk, crate::specs::Walking::store_at))]
+#[tactic(auto, using(bqn_syntax::specs::grammar::TreeEquations::tree_equations, crate::proofs::Walks::push_laws), unfolding(crate::specs::Walking::setting_of, crate::specs::Walking::target_walk, crate::specs::Walking::store_at))]
 pub fn target(known: &Known, q: &Pattern, arrow: Arrow, out: &mut Walk) -> Result<(), NoMemory>
     ensures { OnOk result (walked out.new ≡ target_walk (setting_of known.now) (pattern_of q.now) arrow (walked out.old)) }
 {

@@ -62,7 +62,7 @@ pub(crate) fn right_operand(group: Queue<Element>) -> Result<Token, HeadError>
 }
 
 /// Whether a pattern may be an argument of a header: of names only a subject's is one.
-#[tactic(auto, using(bqn_syntax::specs::grammar::TreeEquations::levels))]
+#[tactic(auto, using(bqn_syntax::specs::grammar::TreeEquations::tree_equations))]
 fn may_be_argument(pattern: &Pattern) -> bool
     ensures { result ≡ stands_outermost (pattern_of pattern.now) }
 {
@@ -84,7 +84,7 @@ fn header_pattern(alloc: Global, group: Queue<Element>) -> Result<Pattern, HeadE
 }
 
 /// The name that a group is.
-#[tactic(auto, using(bqn_syntax::specs::grammar::TreeEquations::levels))]
+#[tactic(auto, using(bqn_syntax::specs::grammar::TreeEquations::tree_equations))]
 fn lone_name(group: Queue<Element>) -> Result<Pattern, HeadError>
     ensures { Finds (option_map Name (Headers.lone_token (group_shown group))) pattern_of result }
 {

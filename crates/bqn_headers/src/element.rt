@@ -31,7 +31,7 @@ pub(crate) enum Item {
 }
 
 /// A name or a literal, as a pattern.
-#[tactic(auto, using(bqn_syntax::specs::grammar::TreeEquations::levels, crate::proofs::Patterns::leaf_laws))]
+#[tactic(auto, using(bqn_syntax::specs::grammar::TreeEquations::tree_equations, crate::proofs::Patterns::leaf_laws))]
 fn leaf_pattern(token: Token) -> Option<Pattern>
     ensures { option_map pattern_of result ≡ Items.leaf_pattern true token.kind token }
 {
@@ -44,7 +44,7 @@ fn leaf_pattern(token: Token) -> Option<Pattern>
     None
 }
 
-#[tactic(auto, using(bqn_syntax::specs::grammar::TreeEquations::levels))]
+#[tactic(auto, using(bqn_syntax::specs::grammar::TreeEquations::tree_equations))]
 fn element_pattern(element: Element) -> Option<Pattern>
     ensures { option_map pattern_of result ≡ Items.element_pattern true (element_shown element) }
 {
@@ -72,7 +72,7 @@ fn patterns(alloc: Global, elements: Queue<Element>) -> Result<Row<Pattern>, Hea
 }
 
 /// The pattern that joined elements are: one element, or a strand.
-#[tactic(auto, using(bqn_syntax::specs::grammar::TreeEquations::levels, crate::proofs::Patterns::group_laws))]
+#[tactic(auto, using(bqn_syntax::specs::grammar::TreeEquations::tree_equations, crate::proofs::Patterns::group_laws))]
 pub(crate) fn group_pattern(alloc: Global, group: Queue<Element>) -> Result<Pattern, HeadError>
     ensures { Finds (Items.group_pattern true (group_shown group)) pattern_of result }
 {

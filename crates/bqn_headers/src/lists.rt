@@ -55,7 +55,7 @@ pub(crate) struct Lists {
     outer: Vec<OpenList>,
 }
 
-#[tactic(auto, using(bqn_syntax::specs::grammar::TreeEquations::levels, crate::proofs::Walking::list_laws))]
+#[tactic(auto, using(bqn_syntax::specs::grammar::TreeEquations::tree_equations, crate::proofs::Walking::list_laws))]
 impl Lists {
     pub(crate) fn new(alloc: Global) -> Lists
         ensures { lists_shown result ≡ lists open_list [] }

@@ -51,7 +51,7 @@ fn emit_leaf(
 }
 
 #[cycle(emit)]
-#[tactic(auto, using(bqn_syntax::specs::grammar::TreeEquations::levels))]
+#[tactic(auto, using(bqn_syntax::specs::grammar::TreeEquations::tree_equations))]
 fn emit_part(
     names: &IndexSet<Vec<char>>,
     part: &Part,
@@ -67,7 +67,7 @@ fn emit_part(
 }
 
 #[cycle(emit)]
-#[tactic(auto, using(bqn_syntax::specs::grammar::TreeEquations::levels))]
+#[tactic(auto, using(bqn_syntax::specs::grammar::TreeEquations::tree_equations))]
 fn emit_expr(
     names: &IndexSet<Vec<char>>,
     expr: &Expr,
@@ -88,7 +88,7 @@ fn emit_expr(
 }
 
 #[cycle(emit)]
-#[tactic(auto, using(bqn_syntax::specs::grammar::TreeEquations::levels))]
+#[tactic(auto, using(bqn_syntax::specs::grammar::TreeEquations::tree_equations))]
 fn emit_steps(
     names: &IndexSet<Vec<char>>,
     steps: &[Step],
@@ -103,7 +103,7 @@ fn emit_steps(
 }
 
 #[cycle(emit)]
-#[tactic(auto, using(bqn_syntax::specs::grammar::TreeEquations::levels))]
+#[tactic(auto, using(bqn_syntax::specs::grammar::TreeEquations::tree_equations))]
 fn emit_step(
     names: &IndexSet<Vec<char>>,
     step: &Step,
@@ -169,7 +169,7 @@ fn emit_target(
 }
 
 /// Emits the last step of a statement, which may define a name.
-#[tactic(auto, using(bqn_syntax::specs::grammar::TreeEquations::levels))]
+#[tactic(auto, using(bqn_syntax::specs::grammar::TreeEquations::tree_equations))]
 fn emit_last_step(
     alloc: Global,
     names: &mut IndexSet<Vec<char>>,
@@ -205,7 +205,7 @@ fn emit_stmt_steps(
 }
 
 /// Emits a statement, whose value is dropped.
-#[tactic(auto, using(bqn_syntax::specs::grammar::TreeEquations::levels))]
+#[tactic(auto, using(bqn_syntax::specs::grammar::TreeEquations::tree_equations))]
 fn emit_stmt(
     alloc: Global,
     names: &mut IndexSet<Vec<char>>,
@@ -230,7 +230,7 @@ fn emit_stmt(
 }
 
 /// The code of the statements of a tree.
-#[tactic(auto, using(bqn_syntax::specs::grammar::TreeEquations::levels))]
+#[tactic(auto, using(bqn_syntax::specs::grammar::TreeEquations::tree_equations))]
 pub(crate) fn code_of(alloc: Global, stmts: &[Stmt]) -> Result<Vec<Instr>, CompileError>
     ensures { ReadsAs (λ code. code.items) (stmts_emitted [] [] (plain_stmts (map stmt_of stmts.now))) result }
 {

@@ -36,7 +36,7 @@ fn function_of_kind(kind: &Kind) -> Option<Function>
     }
 }
 
-#[tactic(auto, using(bqn_syntax::specs::grammar::TreeEquations::levels))]
+#[tactic(auto, using(bqn_syntax::specs::grammar::TreeEquations::tree_equations))]
 fn function_of_part(part: &Part) -> Option<Function>
     ensures { result ≡ part_function (part_of part.now) }
 {

@@ -18,7 +18,7 @@ use std::alloc::Global;
 
 /// A header that tells as much of the class of its block: its own name, and whether it has an
 /// argument.
-#[tactic(auto, using(bqn_syntax::specs::grammar::TreeEquations::levels))]
+#[tactic(auto, using(bqn_syntax::specs::grammar::TreeEquations::tree_equations))]
 fn brief_header(header: &Header) -> Result<Header, Memory>
     ensures { IfOk result (λ h. header_of h ≡ brief_header (header_of header.now)) }
 {
@@ -37,7 +37,7 @@ fn brief_header(header: &Header) -> Result<Header, Memory>
 }
 
 /// What the class of a block asks of a body.
-#[tactic(auto, using(bqn_syntax::specs::grammar::TreeEquations::levels))]
+#[tactic(auto, using(bqn_syntax::specs::grammar::TreeEquations::tree_equations))]
 fn marks(body: &BodyTree) -> Result<BodyMarks, Memory>
     ensures { IfOk result (λ m. marks_shown m ≡ brief (classes.marks_of (body_of body.now))) }
 {
@@ -83,7 +83,7 @@ fn class_of(alloc: Global, all: &[BodyTree]) -> Result<Option<Class>, ParseError
 /// # Errors
 ///
 /// `BadBlock` where the bodies break a rule, and want of memory.
-#[tactic(auto, using(bqn_syntax::specs::grammar::TreeEquations::levels))]
+#[tactic(auto, using(bqn_syntax::specs::grammar::TreeEquations::tree_equations))]
 pub fn block<'t>(alloc: Global, place: Place, all: Vec<BodyTree>) -> Result<Element<'t>, ParseError>
     ensures { Made (parsing.block_part place (bodies (map body_of all.items)) (classes.class_of (classes.marks_in (bodies (map body_of all.items))))) element_of result }
 {

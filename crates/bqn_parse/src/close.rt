@@ -35,7 +35,7 @@ fn closes(bracket: Bracket, inside: Inside) -> bool
 }
 
 /// Parentheses that hold these pieces.
-#[tactic(auto, using(bqn_syntax::specs::grammar::TreeEquations::levels, crate::proofs::Closing::parens_laws))]
+#[tactic(auto, using(bqn_syntax::specs::grammar::TreeEquations::tree_equations, crate::proofs::Closing::parens_laws))]
 fn parens<'t>(
     alloc: Global,
     place: Place,
@@ -53,7 +53,7 @@ fn parens<'t>(
 }
 
 /// The array whose cells are these pieces; it has one at least.
-#[tactic(auto, using(bqn_syntax::specs::grammar::TreeEquations::levels, crate::proofs::Closing::merge_laws))]
+#[tactic(auto, using(bqn_syntax::specs::grammar::TreeEquations::tree_equations, crate::proofs::Closing::merge_laws))]
 fn merge<'t>(alloc: Global, place: Place, pieces: &mut Vec<Expr>) -> Result<Element<'t>, ParseError>
     ensures { Made (parsing.merge_part place (map expr_of pieces.old.items)) element_of result }
 {
@@ -74,7 +74,7 @@ fn whole_block<'t>(alloc: Global, level: &mut Level<'t>) -> Result<Element<'t>, 
 }
 
 /// What a level is as one element, where it closes at this place.
-#[tactic(auto, using(bqn_syntax::specs::grammar::TreeEquations::levels))]
+#[tactic(auto, using(bqn_syntax::specs::grammar::TreeEquations::tree_equations))]
 fn whole<'t>(alloc: Global, place: Place, level: &mut Level<'t>) -> Result<Element<'t>, ParseError>
     ensures { (tokens : List Token) → Made (parsing.whole level.old.inside place (level_shown tokens level.old)) element_of result }
 {

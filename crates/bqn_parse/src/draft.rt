@@ -58,7 +58,7 @@ pub fn boxed<T: Drop>(alloc: Global, value: T) -> Result<Boxed<T>, Memory>
 }
 
 /// The field, for the tree.
-#[tactic(auto, using(bqn_syntax::specs::grammar::TreeEquations::levels))]
+#[tactic(auto, using(bqn_syntax::specs::grammar::TreeEquations::tree_equations))]
 fn whole(alloc: Global, field: Field) -> Result<Part, Memory>
     ensures { IfOk result (λ part. part_of part ≡ field_of field) }
 {
@@ -70,7 +70,7 @@ fn whole(alloc: Global, field: Field) -> Result<Part, Memory>
 }
 
 /// The part, for the tree.
-#[tactic(auto, using(bqn_syntax::specs::grammar::TreeEquations::levels))]
+#[tactic(auto, using(bqn_syntax::specs::grammar::TreeEquations::tree_equations))]
 #[inline(always)]
 pub fn part(alloc: Global, draft: Draft<'_>) -> Result<Part, Memory>
     ensures { IfOk result (λ part. part_of part ≡ draft_of draft.entry) }
@@ -82,7 +82,7 @@ pub fn part(alloc: Global, draft: Draft<'_>) -> Result<Part, Memory>
 }
 
 /// The part, for the tree, of brackets mostly.
-#[tactic(auto, using(bqn_syntax::specs::grammar::TreeEquations::levels))]
+#[tactic(auto, using(bqn_syntax::specs::grammar::TreeEquations::tree_equations))]
 #[inline(never)]
 fn grouped(alloc: Global, draft: Draft<'_>) -> Result<Part, Memory>
     ensures { IfOk result (λ part. part_of part ≡ draft_of draft.entry) }
@@ -111,7 +111,7 @@ pub fn maybe_part(alloc: Global, draft: Option<Draft<'_>>) -> Result<Option<Part
 }
 
 /// The part with its modifiers, for the tree.
-#[tactic(auto, using(bqn_syntax::specs::grammar::TreeEquations::levels))]
+#[tactic(auto, using(bqn_syntax::specs::grammar::TreeEquations::tree_equations))]
 #[inline(never)]
 fn derived_with(alloc: Global, modified: Modified<'_>) -> Result<Derived, Memory>
     ensures { IfOk result (λ derived. derived_of derived ≡ modified_of modified.entry) }
@@ -124,7 +124,7 @@ fn derived_with(alloc: Global, modified: Modified<'_>) -> Result<Derived, Memory
 }
 
 /// The function, for the tree.
-#[tactic(auto, using(bqn_syntax::specs::grammar::TreeEquations::levels))]
+#[tactic(auto, using(bqn_syntax::specs::grammar::TreeEquations::tree_equations))]
 #[inline(always)]
 pub fn derived(alloc: Global, function: Function<'_>) -> Result<Derived, Memory>
     ensures { IfOk result (λ derived. derived_of derived ≡ function_of function.entry) }

@@ -22,7 +22,7 @@ use bqn_syntax::{Arrow, Expr, Step, Stmt};
 use std::alloc::Global;
 
 /// The value with this last part, of which these steps have been read, or none.
-#[tactic(auto, using(bqn_syntax::specs::grammar::TreeEquations::levels))]
+#[tactic(auto, using(bqn_syntax::specs::grammar::TreeEquations::tree_equations))]
 #[inline(always)]
 fn value<'t>(
     alloc: Global,
@@ -148,7 +148,7 @@ fn ends_in_arrow<'t>(
 }
 
 /// An expression that ends in a modifier by itself.
-#[tactic(auto, using(bqn_syntax::specs::grammar::TreeEquations::levels))]
+#[tactic(auto, using(bqn_syntax::specs::grammar::TreeEquations::tree_equations))]
 fn ends_in_modifier<'t>(
     alloc: Global,
     draft: Draft<'t>,
@@ -209,7 +209,7 @@ fn is_export(unit: &Unit<'_>) -> bool
 }
 
 /// The export of a unit, or none.
-#[tactic(auto, using(bqn_syntax::specs::grammar::TreeEquations::levels))]
+#[tactic(auto, using(bqn_syntax::specs::grammar::TreeEquations::tree_equations))]
 fn export_of(unit: Unit<'_>) -> Result<Option<Stmt>, Memory>
     ensures { IfOk result (λ s. option_map stmt_of s ≡ option_map (λ q. Export q) (expressions.exported (unit_shown unit.entry))) }
 {
@@ -250,7 +250,7 @@ fn export<'t>(left: &mut Vec<Unit<'t>>) -> Result<Option<Stmt>, Memory>
 }
 
 /// An expression that is evaluated, or none.
-#[tactic(auto, using(bqn_syntax::specs::grammar::TreeEquations::levels))]
+#[tactic(auto, using(bqn_syntax::specs::grammar::TreeEquations::tree_equations))]
 fn evaluated<'t>(
     alloc: Global,
     unit: Unit<'t>,

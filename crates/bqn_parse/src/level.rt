@@ -174,7 +174,7 @@ impl<'t> Level<'t> {
     }
 
     /// The body that is being read ends.
-    #[tactic(auto, using(bqn_syntax::specs::grammar::TreeEquations::levels, crate::proofs::Walking::append_laws))]
+    #[tactic(auto, using(bqn_syntax::specs::grammar::TreeEquations::tree_equations, crate::proofs::Walking::append_laws))]
     pub fn end_body(&mut self, alloc: Global) -> Result<(), Memory>
         ensures { IfOk result (λ done. (tokens : List Token) → level_shown tokens self.new ≡ parsing.and_body (level_shown tokens self.old)) }
     {

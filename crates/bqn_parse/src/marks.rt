@@ -55,7 +55,7 @@ fn in_kind(kind: &Kind) -> Seen
 }
 
 #[cycle(marks)]
-#[tactic(auto, using(bqn_syntax::specs::grammar::TreeEquations::levels, crate::proofs::Marking::seen_laws))]
+#[tactic(auto, using(bqn_syntax::specs::grammar::TreeEquations::tree_equations, crate::proofs::Marking::seen_laws))]
 fn in_expr(e: &Expr) -> Seen
     ensures { seen_shown result ≡ classes.in_expr (expr_of e.now) }
 {
@@ -70,7 +70,7 @@ fn in_expr(e: &Expr) -> Seen
 }
 
 #[cycle(marks)]
-#[tactic(auto, using(bqn_syntax::specs::grammar::TreeEquations::levels, crate::proofs::Marking::seen_laws))]
+#[tactic(auto, using(bqn_syntax::specs::grammar::TreeEquations::tree_equations, crate::proofs::Marking::seen_laws))]
 fn in_part(x: &Part) -> Seen
     ensures { seen_shown result ≡ classes.in_part (part_of x.now) }
 {
@@ -87,7 +87,7 @@ fn in_part(x: &Part) -> Seen
 }
 
 #[cycle(marks)]
-#[tactic(auto, using(bqn_syntax::specs::grammar::TreeEquations::levels, crate::proofs::Marking::seen_laws))]
+#[tactic(auto, using(bqn_syntax::specs::grammar::TreeEquations::tree_equations, crate::proofs::Marking::seen_laws))]
 fn in_step(s: &Step) -> Seen
     ensures { seen_shown result ≡ classes.in_step (step_of s.now) }
 {
@@ -102,7 +102,7 @@ fn in_step(s: &Step) -> Seen
 }
 
 #[cycle(marks)]
-#[tactic(auto, using(bqn_syntax::specs::grammar::TreeEquations::levels, crate::proofs::Marking::seen_laws))]
+#[tactic(auto, using(bqn_syntax::specs::grammar::TreeEquations::tree_equations, crate::proofs::Marking::seen_laws))]
 fn in_derived(d: &Derived) -> Seen
     ensures { seen_shown result ≡ classes.in_derived (derived_of d.now) }
 {
@@ -110,7 +110,7 @@ fn in_derived(d: &Derived) -> Seen
 }
 
 #[cycle(marks)]
-#[tactic(auto, using(bqn_syntax::specs::grammar::TreeEquations::levels, crate::proofs::Marking::seen_laws))]
+#[tactic(auto, using(bqn_syntax::specs::grammar::TreeEquations::tree_equations, crate::proofs::Marking::seen_laws))]
 fn in_use(u: &ModUse) -> Seen
     ensures { seen_shown result ≡ classes.in_use (use_of u.now) }
 {
@@ -121,7 +121,7 @@ fn in_use(u: &ModUse) -> Seen
 }
 
 #[cycle(marks)]
-#[tactic(auto, using(bqn_syntax::specs::grammar::TreeEquations::levels, crate::proofs::Marking::seen_laws))]
+#[tactic(auto, using(bqn_syntax::specs::grammar::TreeEquations::tree_equations, crate::proofs::Marking::seen_laws))]
 fn in_exprs(es: &[Expr]) -> Seen
     ensures { seen_shown result ≡ classes.in_exprs (exprs (map expr_of es.now)) }
 {
@@ -133,7 +133,7 @@ fn in_exprs(es: &[Expr]) -> Seen
 }
 
 #[cycle(marks)]
-#[tactic(auto, using(bqn_syntax::specs::grammar::TreeEquations::levels, crate::proofs::Marking::seen_laws))]
+#[tactic(auto, using(bqn_syntax::specs::grammar::TreeEquations::tree_equations, crate::proofs::Marking::seen_laws))]
 fn in_uses(us: &[ModUse]) -> Seen
     ensures { seen_shown result ≡ classes.in_uses (uses (map use_of us.now)) }
 {
@@ -145,7 +145,7 @@ fn in_uses(us: &[ModUse]) -> Seen
 }
 
 #[cycle(marks)]
-#[tactic(auto, using(bqn_syntax::specs::grammar::TreeEquations::levels, crate::proofs::Marking::seen_laws))]
+#[tactic(auto, using(bqn_syntax::specs::grammar::TreeEquations::tree_equations, crate::proofs::Marking::seen_laws))]
 fn in_parts(xs: &[Part]) -> Seen
     ensures { seen_shown result ≡ classes.in_parts (parts (map part_of xs.now)) }
 {
@@ -157,7 +157,7 @@ fn in_parts(xs: &[Part]) -> Seen
 }
 
 #[cycle(marks)]
-#[tactic(auto, using(bqn_syntax::specs::grammar::TreeEquations::levels, crate::proofs::Marking::seen_laws))]
+#[tactic(auto, using(bqn_syntax::specs::grammar::TreeEquations::tree_equations, crate::proofs::Marking::seen_laws))]
 fn in_steps(ss: &[Step]) -> Seen
     ensures { seen_shown result ≡ classes.in_steps (steps (map step_of ss.now)) }
 {
@@ -169,7 +169,7 @@ fn in_steps(ss: &[Step]) -> Seen
 }
 
 #[cycle(marks)]
-#[tactic(auto, using(bqn_syntax::specs::grammar::TreeEquations::levels, crate::proofs::Marking::seen_laws))]
+#[tactic(auto, using(bqn_syntax::specs::grammar::TreeEquations::tree_equations, crate::proofs::Marking::seen_laws))]
 fn in_deriveds(ds: &[Derived]) -> Seen
     ensures { seen_shown result ≡ classes.in_deriveds (deriveds (map derived_of ds.now)) }
 {
@@ -180,7 +180,7 @@ fn in_deriveds(ds: &[Derived]) -> Seen
     so
 }
 
-#[tactic(auto, using(bqn_syntax::specs::grammar::TreeEquations::levels))]
+#[tactic(auto, using(bqn_syntax::specs::grammar::TreeEquations::tree_equations))]
 fn in_stmt(s: &Stmt) -> Seen
     ensures { seen_shown result ≡ classes.in_stmt (stmt_of s.now) }
 {
@@ -192,7 +192,7 @@ fn in_stmt(s: &Stmt) -> Seen
 }
 
 /// Which special names occur in statements, blocks inside them aside.
-#[tactic(auto, using(bqn_syntax::specs::grammar::TreeEquations::levels, crate::proofs::Marking::seen_laws))]
+#[tactic(auto, using(bqn_syntax::specs::grammar::TreeEquations::tree_equations, crate::proofs::Marking::seen_laws))]
 pub fn in_stmts(ss: &[Stmt]) -> Seen
     ensures { seen_shown result ≡ classes.in_stmts (stmts (map stmt_of ss.now)) }
 {
@@ -203,7 +203,7 @@ pub fn in_stmts(ss: &[Stmt]) -> Seen
     so
 }
 
-#[tactic(auto, using(bqn_syntax::specs::grammar::TreeEquations::levels))]
+#[tactic(auto, using(bqn_syntax::specs::grammar::TreeEquations::tree_equations))]
 fn is_predicate(s: &Stmt) -> bool
     ensures { result ≡ classes.is_predicate (stmt_of s.now) }
 {

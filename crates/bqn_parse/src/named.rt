@@ -42,7 +42,7 @@ fn is_word(kind: &Kind) -> bool
 }
 
 /// The name of this role that a part is by itself.
-#[tactic(auto, using(bqn_syntax::specs::grammar::TreeEquations::levels))]
+#[tactic(auto, using(bqn_syntax::specs::grammar::TreeEquations::tree_equations))]
 pub fn named<'t>(tag: Tag, draft: Draft<'t>) -> Option<&'t Token>
     ensures { option_map (λ t. t.now) result ≡ named tag (draft_of draft.entry) }
 {
@@ -59,7 +59,7 @@ pub fn named<'t>(tag: Tag, draft: Draft<'t>) -> Option<&'t Token>
 }
 
 /// The part of a function that has no modifier.
-#[tactic(auto, using(crate::proofs::Singles::single_laws, bqn_syntax::specs::grammar::TreeEquations::levels))]
+#[tactic(auto, using(crate::proofs::Singles::single_laws, bqn_syntax::specs::grammar::TreeEquations::tree_equations))]
 fn lone<'t>(function: Function<'t>) -> Option<Draft<'t>>
     ensures { option_map draft_of result ≡ single (units.Function (function_of function.entry)) }
 {
@@ -73,7 +73,7 @@ fn lone<'t>(function: Function<'t>) -> Option<Draft<'t>>
 }
 
 /// The part that a unit is by itself, with no modifier.
-#[tactic(auto, using(bqn_syntax::specs::grammar::TreeEquations::levels))]
+#[tactic(auto, using(bqn_syntax::specs::grammar::TreeEquations::tree_equations))]
 pub fn single<'t>(unit: Unit<'t>) -> Option<Draft<'t>>
     ensures { option_map draft_of result ≡ single (unit_shown unit.entry) }
 {
@@ -85,7 +85,7 @@ pub fn single<'t>(unit: Unit<'t>) -> Option<Draft<'t>>
 }
 
 /// The name or `·` that a part is, as a pattern.
-#[tactic(auto, using(bqn_syntax::specs::grammar::TreeEquations::levels))]
+#[tactic(auto, using(bqn_syntax::specs::grammar::TreeEquations::tree_equations))]
 fn exported_part(draft: Draft<'_>) -> Result<Option<Pattern>, Memory>
     ensures { IfOk result (λ q. option_map pattern_of q ≡ exported_part (draft_of draft.entry)) }
 {
@@ -103,7 +103,7 @@ fn exported_part(draft: Draft<'_>) -> Result<Option<Pattern>, Memory>
 }
 
 /// What is exported without a value: a name or a pattern.
-#[tactic(auto, using(bqn_syntax::specs::grammar::TreeEquations::levels))]
+#[tactic(auto, using(bqn_syntax::specs::grammar::TreeEquations::tree_equations))]
 pub fn exported(unit: Unit<'_>) -> Result<Option<Pattern>, Memory>
     ensures { IfOk result (λ q. option_map pattern_of q ≡ exported (unit_shown unit.entry)) }
 {

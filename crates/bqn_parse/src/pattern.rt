@@ -21,7 +21,7 @@ struct Joined<'t> {
 }
 
 /// The pattern that joined elements are: one element, or several that are a strand.
-#[tactic(auto, using(bqn_syntax::specs::grammar::TreeEquations::levels, crate::proofs::Groups::group_laws))]
+#[tactic(auto, using(bqn_syntax::specs::grammar::TreeEquations::tree_equations, crate::proofs::Groups::group_laws))]
 fn group<'t>(
     alloc: Global,
     literals: bool,

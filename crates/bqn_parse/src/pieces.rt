@@ -43,7 +43,7 @@ pub fn piece_statement<'t>(
 }
 
 /// The predicate of this condition, which is a value, or none.
-#[tactic(auto, using(bqn_syntax::specs::grammar::TreeEquations::levels))]
+#[tactic(auto, using(bqn_syntax::specs::grammar::TreeEquations::tree_equations))]
 fn predicate(condition: Expr) -> Option<Stmt>
     ensures { option_map stmt_of result ≡ expressions.predicate (expr_of condition) }
 {

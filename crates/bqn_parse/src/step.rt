@@ -242,7 +242,7 @@ fn colon<'t>(
 }
 
 /// One token, which has this index and behind whose bracket this stands.
-#[tactic(auto, using(bqn_syntax::specs::grammar::TreeEquations::levels))]
+#[tactic(auto, using(bqn_syntax::specs::grammar::TreeEquations::tree_equations))]
 #[inline(always)]
 pub fn step<'t>(
     alloc: Global,

@@ -29,7 +29,7 @@ pub enum Left {
 }
 
 /// One more step: a call with a left argument.
-#[tactic(auto, using(bqn_syntax::specs::grammar::TreeEquations::levels, crate::proofs::Leftward::step_laws))]
+#[tactic(auto, using(bqn_syntax::specs::grammar::TreeEquations::tree_equations, crate::proofs::Leftward::step_laws))]
 #[inline(always)]
 fn push_dyad<'t>(
     alloc: Global,
@@ -47,7 +47,7 @@ fn push_dyad<'t>(
 }
 
 /// One more step: a call without a left argument.
-#[tactic(auto, using(bqn_syntax::specs::grammar::TreeEquations::levels, crate::proofs::Leftward::step_laws))]
+#[tactic(auto, using(bqn_syntax::specs::grammar::TreeEquations::tree_equations, crate::proofs::Leftward::step_laws))]
 #[inline(never)]
 fn push_monad<'t>(
     alloc: Global,
@@ -64,7 +64,7 @@ fn push_monad<'t>(
 }
 
 /// One more step: an assignment.
-#[tactic(auto, using(bqn_syntax::specs::grammar::TreeEquations::levels, crate::proofs::Leftward::step_laws))]
+#[tactic(auto, using(bqn_syntax::specs::grammar::TreeEquations::tree_equations, crate::proofs::Leftward::step_laws))]
 #[inline(always)]
 fn push_assignment(steps: &mut Vec<Step>, target: Pattern, arrow: Arrow) -> Result<(), Memory>
     ensures { IfOk result (λ done. map step_of steps.new.items ≡ map step_of steps.old.items ++ plain.Assign (pattern_of target) arrow ∷ []) }
@@ -73,7 +73,7 @@ fn push_assignment(steps: &mut Vec<Step>, target: Pattern, arrow: Arrow) -> Resu
 }
 
 /// One more step: a change of a name by a function.
-#[tactic(auto, using(bqn_syntax::specs::grammar::TreeEquations::levels, crate::proofs::Leftward::step_laws))]
+#[tactic(auto, using(bqn_syntax::specs::grammar::TreeEquations::tree_equations, crate::proofs::Leftward::step_laws))]
 #[inline(never)]
 fn push_change<'t>(
     alloc: Global,
@@ -91,7 +91,7 @@ fn push_change<'t>(
 }
 
 /// An assignment to a name, where it is one.
-#[tactic(auto, using(crate::proofs::Leftward::step_laws, bqn_syntax::specs::grammar::TreeEquations::levels))]
+#[tactic(auto, using(crate::proofs::Leftward::step_laws, bqn_syntax::specs::grammar::TreeEquations::tree_equations))]
 #[inline(always)]
 fn assigned_name<'t>(
     steps: &mut Vec<Step>,

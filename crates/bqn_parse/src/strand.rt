@@ -13,7 +13,7 @@ use bqn_syntax::{Kind, Part, Pattern, Token};
 use std::alloc::Global;
 
 /// The pattern that a token is, or none: a name, or a literal where there may be some.
-#[tactic(auto, using(bqn_syntax::specs::grammar::TreeEquations::levels))]
+#[tactic(auto, using(bqn_syntax::specs::grammar::TreeEquations::tree_equations))]
 fn leaf_pattern(literals: bool, token: &Token) -> Result<Option<Pattern>, Memory>
     ensures { IfOk result (λ q. option_map pattern_of q ≡ items.leaf_pattern literals token.now.kind token.now) }
 {
@@ -31,7 +31,7 @@ fn leaf_pattern(literals: bool, token: &Token) -> Result<Option<Pattern>, Memory
 }
 
 /// The pattern that an element is, or none.
-#[tactic(auto, using(bqn_syntax::specs::grammar::TreeEquations::levels))]
+#[tactic(auto, using(bqn_syntax::specs::grammar::TreeEquations::tree_equations))]
 pub fn element_pattern(literals: bool, element: Element<'_>) -> Result<Option<Pattern>, Memory>
     ensures { IfOk result (λ q. option_map pattern_of q ≡ items.element_pattern literals (element_of element.entry)) }
 {
@@ -44,7 +44,7 @@ pub fn element_pattern(literals: bool, element: Element<'_>) -> Result<Option<Pa
 }
 
 /// The part that an element is, or none: `·` is no element of a strand.
-#[tactic(auto, using(bqn_syntax::specs::grammar::TreeEquations::levels))]
+#[tactic(auto, using(bqn_syntax::specs::grammar::TreeEquations::tree_equations))]
 pub fn element_part(alloc: Global, element: Element<'_>) -> Result<Option<Part>, Memory>
     ensures { IfOk result (λ part. option_map part_of part ≡ items.element_part (element_of element.entry)) }
 {

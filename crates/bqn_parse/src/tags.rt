@@ -42,7 +42,7 @@ pub fn tag_of_last(names: &[Token]) -> Tag
 /// The role of a part. Parentheses pass on the role of what they hold, and a field has that of its
 /// last name.
 #[cycle(tag)]
-#[tactic(auto, using(bqn_syntax::specs::grammar::TreeEquations::levels))]
+#[tactic(auto, using(bqn_syntax::specs::grammar::TreeEquations::tree_equations))]
 pub fn tag_of(part: &Part) -> Tag
     ensures { result ≡ tag (part_of part.now) }
 {
@@ -58,7 +58,7 @@ pub fn tag_of(part: &Part) -> Tag
 
 /// The role of an expression.
 #[cycle(tag)]
-#[tactic(auto, using(bqn_syntax::specs::grammar::TreeEquations::levels))]
+#[tactic(auto, using(bqn_syntax::specs::grammar::TreeEquations::tree_equations))]
 pub fn tag_of_expr(expr: &Expr) -> Tag
     ensures { result ≡ expr_tag (expr_of expr.now) }
 {

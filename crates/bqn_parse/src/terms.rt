@@ -40,7 +40,7 @@ struct Reader<'t> {
 }
 
 /// The strand of several elements.
-#[tactic(auto, using(bqn_syntax::specs::grammar::TreeEquations::levels, crate::proofs::Readers::strand_laws))]
+#[tactic(auto, using(bqn_syntax::specs::grammar::TreeEquations::tree_equations, crate::proofs::Readers::strand_laws))]
 fn plain_strand<'t>(
     alloc: Global,
     grouping: &mut Grouping<'t>,
@@ -63,7 +63,7 @@ fn plain_strand<'t>(
 }
 
 /// The pattern of several elements.
-#[tactic(auto, using(bqn_syntax::specs::grammar::TreeEquations::levels, crate::proofs::Readers::strand_laws))]
+#[tactic(auto, using(bqn_syntax::specs::grammar::TreeEquations::tree_equations, crate::proofs::Readers::strand_laws))]
 fn aimed_strand<'t>(
     alloc: Global,
     grouping: &mut Grouping<'t>,
@@ -86,7 +86,7 @@ fn aimed_strand<'t>(
 }
 
 /// An element by itself, where no arrow follows.
-#[tactic(auto, using(bqn_syntax::specs::grammar::TreeEquations::levels))]
+#[tactic(auto, using(bqn_syntax::specs::grammar::TreeEquations::tree_equations))]
 #[inline(always)]
 fn plain_alone<'t>(
     alloc: Global,
@@ -102,7 +102,7 @@ fn plain_alone<'t>(
 }
 
 /// An element by itself, directly before an arrow: a list there is a pattern.
-#[tactic(auto, using(bqn_syntax::specs::grammar::TreeEquations::levels))]
+#[tactic(auto, using(bqn_syntax::specs::grammar::TreeEquations::tree_equations))]
 #[inline(always)]
 fn aimed_alone<'t>(
     alloc: Global,
@@ -153,7 +153,7 @@ fn aimed_term<'t>(
 }
 
 /// One more name behind a part.
-#[tactic(auto, using(bqn_syntax::specs::grammar::TreeEquations::levels))]
+#[tactic(auto, using(bqn_syntax::specs::grammar::TreeEquations::tree_equations))]
 fn with_name<'t>(alloc: Global, draft: Draft<'t>, name: &Token) -> Result<Field, Memory>
     ensures { IfOk result (λ field. field_of field ≡ items.with_name (draft_of draft.entry) name.now) }
 {
@@ -169,7 +169,7 @@ fn with_name<'t>(alloc: Global, draft: Draft<'t>, name: &Token) -> Result<Field,
 }
 
 /// The field that a dot asks for.
-#[tactic(auto, using(bqn_syntax::specs::grammar::TreeEquations::levels))]
+#[tactic(auto, using(bqn_syntax::specs::grammar::TreeEquations::tree_equations))]
 fn selected<'t>(
     alloc: Global,
     reader: &mut Reader<'t>,
@@ -337,7 +337,7 @@ fn plain_settled<'t>(
 }
 
 /// An element by itself, directly before an arrow.
-#[tactic(auto, using(bqn_syntax::specs::grammar::TreeEquations::levels, crate::proofs::Settled::beside_laws))]
+#[tactic(auto, using(bqn_syntax::specs::grammar::TreeEquations::tree_equations, crate::proofs::Settled::beside_laws))]
 #[inline(always)]
 fn aimed_settled<'t>(
     alloc: Global,

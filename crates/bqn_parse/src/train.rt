@@ -29,7 +29,7 @@ enum Turn {
 }
 
 /// A function is one more part.
-#[tactic(auto, using(crate::proofs::Trains::train_laws, bqn_syntax::specs::grammar::TreeEquations::levels))]
+#[tactic(auto, using(crate::proofs::Trains::train_laws, bqn_syntax::specs::grammar::TreeEquations::tree_equations))]
 fn push_function<'t>(
     alloc: Global,
     parts: &mut Vec<Derived>,
@@ -41,7 +41,7 @@ fn push_function<'t>(
 }
 
 /// A part with no modifier is one more part.
-#[tactic(auto, using(crate::proofs::Trains::train_laws, bqn_syntax::specs::grammar::TreeEquations::levels))]
+#[tactic(auto, using(crate::proofs::Trains::train_laws, bqn_syntax::specs::grammar::TreeEquations::tree_equations))]
 fn push_alone<'t>(alloc: Global, parts: &mut Vec<Derived>, draft: Draft<'t>) -> Result<(), Memory>
     ensures { IfOk result (λ done. parts_shown parts.new.items ≡ and_deriveds (plain.derived (draft_of draft.entry) no_uses) (parts_shown parts.old.items)) }
 {
@@ -106,7 +106,7 @@ fn any_part<'t>(
 }
 
 /// A train whose parts are all known, and its targets.
-#[tactic(auto, using(bqn_syntax::specs::grammar::TreeEquations::levels))]
+#[tactic(auto, using(bqn_syntax::specs::grammar::TreeEquations::tree_equations))]
 fn aimed<'t>(
     alloc: Global,
     parts: Vec<Derived>,

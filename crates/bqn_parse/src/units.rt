@@ -55,7 +55,7 @@ fn alone<'t>(first: Draft<'t>) -> Unit<'t>
 }
 
 /// A part with its modifiers, if there are some.
-#[tactic(auto, using(bqn_syntax::specs::grammar::TreeEquations::levels))]
+#[tactic(auto, using(bqn_syntax::specs::grammar::TreeEquations::tree_equations))]
 #[inline(never)]
 fn modified_unit<'t>(all: Boxed<Modified<'t>>) -> Unit<'t>
     ensures { unit_shown result ≡ unit_of (draft_of all.entry.first) (map use_of all.entry.uses.items) }
@@ -68,7 +68,7 @@ fn modified_unit<'t>(all: Boxed<Modified<'t>>) -> Unit<'t>
 }
 
 /// A part with its modifiers, as a unit.
-#[tactic(auto, using(bqn_syntax::specs::grammar::TreeEquations::levels))]
+#[tactic(auto, using(bqn_syntax::specs::grammar::TreeEquations::tree_equations))]
 #[inline(always)]
 fn unit_of<'t>(function: Function<'t>) -> Unit<'t>
     ensures { unit_shown result ≡ unit_of (operand_shown function.entry) (uses_shown function.entry) }
@@ -92,7 +92,7 @@ pub fn closed<'t>(grouping: &mut Grouping<'t>) -> Result<bool, Memory>
 }
 
 /// The operand that was being read ends; it has no end where its modifier wants another.
-#[tactic(auto, using(crate::proofs::Backward::unit_laws, bqn_syntax::specs::grammar::TreeEquations::levels))]
+#[tactic(auto, using(crate::proofs::Backward::unit_laws, bqn_syntax::specs::grammar::TreeEquations::tree_equations))]
 #[inline(never)]
 fn closed_bound<'t>(grouping: &mut Grouping<'t>) -> Result<bool, Memory>
     ensures units { IfOk result (λ fine. when fine (backward grouping.new.units.items) ≡ bound (grouping_shown grouping.old)) }
@@ -109,7 +109,7 @@ fn closed_bound<'t>(grouping: &mut Grouping<'t>) -> Result<bool, Memory>
 }
 
 /// The function with one more modifier behind it.
-#[tactic(auto, using(bqn_syntax::specs::grammar::TreeEquations::levels))]
+#[tactic(auto, using(bqn_syntax::specs::grammar::TreeEquations::tree_equations))]
 #[inline(never)]
 fn with_use<'t>(alloc: Global, function: Function<'t>, one: ModUse) -> Result<Function<'t>, Memory>
     ensures part { IfOk result (λ with. operand_shown with ≡ operand_shown function.entry) }
@@ -127,7 +127,7 @@ fn with_use<'t>(alloc: Global, function: Function<'t>, one: ModUse) -> Result<Fu
 }
 
 /// The second operand of the last modifier.
-#[tactic(auto, using(bqn_syntax::specs::grammar::TreeEquations::levels))]
+#[tactic(auto, using(bqn_syntax::specs::grammar::TreeEquations::tree_equations))]
 #[inline(never)]
 fn second<'t>(
     alloc: Global,
@@ -144,7 +144,7 @@ fn second<'t>(
 }
 
 /// One more subject or function.
-#[tactic(auto, using(crate::proofs::Backward::unit_laws, bqn_syntax::specs::grammar::TreeEquations::levels))]
+#[tactic(auto, using(crate::proofs::Backward::unit_laws, bqn_syntax::specs::grammar::TreeEquations::tree_equations))]
 #[inline(always)]
 fn operand<'t>(alloc: Global, grouping: &mut Grouping<'t>, draft: Draft<'t>) -> Result<(), Memory>
     ensures { IfOk result (λ done. grouping_shown grouping.new ≡ operand (backward grouping.old.units.items) (binding_shown grouping.old.binding) (draft_of draft.entry)) }
@@ -159,7 +159,7 @@ fn operand<'t>(alloc: Global, grouping: &mut Grouping<'t>, draft: Draft<'t>) -> 
 }
 
 /// One more 1-modifier.
-#[tactic(auto, using(crate::proofs::Backward::unit_laws, bqn_syntax::specs::grammar::TreeEquations::levels))]
+#[tactic(auto, using(crate::proofs::Backward::unit_laws, bqn_syntax::specs::grammar::TreeEquations::tree_equations))]
 #[inline(never)]
 fn modified<'t>(
     alloc: Global,
@@ -183,7 +183,7 @@ fn modified<'t>(
 }
 
 /// One more 2-modifier.
-#[tactic(auto, using(crate::proofs::Backward::unit_laws, bqn_syntax::specs::grammar::TreeEquations::levels))]
+#[tactic(auto, using(crate::proofs::Backward::unit_laws, bqn_syntax::specs::grammar::TreeEquations::tree_equations))]
 #[inline(never)]
 fn modified_twice<'t>(
     alloc: Global,
@@ -248,7 +248,7 @@ fn is_free(bound: &Binding<'_>) -> bool
 }
 
 /// The operand that was being read ends, unless its modifier wants another.
-#[tactic(auto, using(crate::proofs::Backward::unit_laws, bqn_syntax::specs::grammar::TreeEquations::levels))]
+#[tactic(auto, using(crate::proofs::Backward::unit_laws, bqn_syntax::specs::grammar::TreeEquations::tree_equations))]
 #[inline(never)]
 fn settle<'t>(grouping: &mut Grouping<'t>) -> Result<(), Memory>
     ensures { IfOk result (λ done. grouping_shown grouping.new ≡ settled (grouping_shown grouping.old)) }

@@ -14,7 +14,7 @@ use bqn_syntax::{
 use std::alloc::Global;
 
 /// Puts a name in front of mentions that stand from the last to the first, as each function here does.
-#[tactic(auto, using(bqn_syntax::specs::grammar::TreeEquations::levels, crate::specs::Levels::levels, crate::proofs::Backward::backward_laws))]
+#[tactic(auto, using(bqn_syntax::specs::grammar::TreeEquations::tree_equations, crate::specs::Levels::levels, crate::proofs::Backward::backward_laws))]
 fn leaf<'a>(mentions: &mut Vec<Mention<'a>>, how: How, token: &'a Token) -> Result<(), NoMemory>
     ensures { OnOk result (mentions_backward mentions.new.items ≡ leaf_mention (how_shown how) token.now.kind token.now (mentions_backward mentions.old.items)) }
 {
@@ -28,7 +28,7 @@ fn leaf<'a>(mentions: &mut Vec<Mention<'a>>, how: How, token: &'a Token) -> Resu
 }
 
 #[cycle(pattern)]
-#[tactic(auto, using(bqn_syntax::specs::grammar::TreeEquations::levels, crate::specs::Levels::levels, crate::proofs::Backward::backward_laws))]
+#[tactic(auto, using(bqn_syntax::specs::grammar::TreeEquations::tree_equations, crate::specs::Levels::levels, crate::proofs::Backward::backward_laws))]
 fn pattern<'a>(mentions: &mut Vec<Mention<'a>>, how: How, q: &'a Pattern) -> Result<(), NoMemory>
     ensures { OnOk result (mentions_backward mentions.new.items ≡ pattern_mentions (how_shown how) (pattern_of q.now) (mentions_backward mentions.old.items)) }
 {
@@ -41,7 +41,7 @@ fn pattern<'a>(mentions: &mut Vec<Mention<'a>>, how: How, q: &'a Pattern) -> Res
 }
 
 #[cycle(pattern)]
-#[tactic(auto, using(bqn_syntax::specs::grammar::TreeEquations::levels, crate::specs::Levels::levels, crate::proofs::Backward::backward_laws))]
+#[tactic(auto, using(bqn_syntax::specs::grammar::TreeEquations::tree_equations, crate::specs::Levels::levels, crate::proofs::Backward::backward_laws))]
 fn patterns<'a>(
     mentions: &mut Vec<Mention<'a>>,
     how: How,
@@ -55,7 +55,7 @@ fn patterns<'a>(
     Ok(())
 }
 
-#[tactic(auto, using(bqn_syntax::specs::grammar::TreeEquations::levels, crate::specs::Levels::levels, crate::proofs::Backward::backward_laws))]
+#[tactic(auto, using(bqn_syntax::specs::grammar::TreeEquations::tree_equations, crate::specs::Levels::levels, crate::proofs::Backward::backward_laws))]
 fn targets<'a>(mentions: &mut Vec<Mention<'a>>, all: &'a [(Token, Arrow)]) -> Result<(), NoMemory>
     ensures { OnOk result (mentions_backward mentions.new.items ≡ target_mentions all.now (mentions_backward mentions.old.items)) }
 {
@@ -65,7 +65,7 @@ fn targets<'a>(mentions: &mut Vec<Mention<'a>>, all: &'a [(Token, Arrow)]) -> Re
     Ok(())
 }
 
-#[tactic(auto, using(bqn_syntax::specs::grammar::TreeEquations::levels, crate::specs::Levels::levels, crate::proofs::Backward::backward_laws))]
+#[tactic(auto, using(bqn_syntax::specs::grammar::TreeEquations::tree_equations, crate::specs::Levels::levels, crate::proofs::Backward::backward_laws))]
 fn header<'a>(mentions: &mut Vec<Mention<'a>>, h: &'a Header) -> Result<(), NoMemory>
     ensures { OnOk result (mentions_backward mentions.new.items ≡ header_mentions (Some (header_of h.now)) (mentions_backward mentions.old.items)) }
 {
@@ -86,7 +86,7 @@ fn header<'a>(mentions: &mut Vec<Mention<'a>>, h: &'a Header) -> Result<(), NoMe
 }
 
 #[cycle(mentions)]
-#[tactic(auto, using(bqn_syntax::specs::grammar::TreeEquations::levels, crate::specs::Levels::levels, crate::proofs::Backward::backward_laws))]
+#[tactic(auto, using(bqn_syntax::specs::grammar::TreeEquations::tree_equations, crate::specs::Levels::levels, crate::proofs::Backward::backward_laws))]
 fn expr<'a>(alloc: Global, mentions: &mut Vec<Mention<'a>>, e: &'a Expr) -> Result<(), NoMemory>
     ensures { OnOk result (mentions_backward mentions.new.items ≡ expr_mentions (expr_of e.now) (mentions_backward mentions.old.items)) }
 {
@@ -115,7 +115,7 @@ fn expr<'a>(alloc: Global, mentions: &mut Vec<Mention<'a>>, e: &'a Expr) -> Resu
 }
 
 #[cycle(mentions)]
-#[tactic(auto, using(bqn_syntax::specs::grammar::TreeEquations::levels, crate::specs::Levels::levels, crate::proofs::Backward::backward_laws))]
+#[tactic(auto, using(bqn_syntax::specs::grammar::TreeEquations::tree_equations, crate::specs::Levels::levels, crate::proofs::Backward::backward_laws))]
 fn part<'a>(alloc: Global, mentions: &mut Vec<Mention<'a>>, x: &'a Part) -> Result<(), NoMemory>
     ensures { OnOk result (mentions_backward mentions.new.items ≡ part_mentions (part_of x.now) (mentions_backward mentions.old.items)) }
 {
@@ -136,7 +136,7 @@ fn part<'a>(alloc: Global, mentions: &mut Vec<Mention<'a>>, x: &'a Part) -> Resu
 }
 
 #[cycle(mentions)]
-#[tactic(auto, using(bqn_syntax::specs::grammar::TreeEquations::levels, crate::specs::Levels::levels, crate::proofs::Backward::backward_laws))]
+#[tactic(auto, using(bqn_syntax::specs::grammar::TreeEquations::tree_equations, crate::specs::Levels::levels, crate::proofs::Backward::backward_laws))]
 fn step<'a>(alloc: Global, mentions: &mut Vec<Mention<'a>>, s: &'a Step) -> Result<(), NoMemory>
     ensures { OnOk result (mentions_backward mentions.new.items ≡ step_mentions (step_of s.now) (mentions_backward mentions.old.items)) }
 {
@@ -157,7 +157,7 @@ fn step<'a>(alloc: Global, mentions: &mut Vec<Mention<'a>>, s: &'a Step) -> Resu
 }
 
 #[cycle(mentions)]
-#[tactic(auto, using(bqn_syntax::specs::grammar::TreeEquations::levels, crate::specs::Levels::levels, crate::proofs::Backward::backward_laws))]
+#[tactic(auto, using(bqn_syntax::specs::grammar::TreeEquations::tree_equations, crate::specs::Levels::levels, crate::proofs::Backward::backward_laws))]
 fn derived<'a>(
     alloc: Global,
     mentions: &mut Vec<Mention<'a>>,
@@ -170,7 +170,7 @@ fn derived<'a>(
 }
 
 #[cycle(mentions)]
-#[tactic(auto, using(bqn_syntax::specs::grammar::TreeEquations::levels, crate::specs::Levels::levels, crate::proofs::Backward::backward_laws))]
+#[tactic(auto, using(bqn_syntax::specs::grammar::TreeEquations::tree_equations, crate::specs::Levels::levels, crate::proofs::Backward::backward_laws))]
 fn modifier<'a>(
     alloc: Global,
     mentions: &mut Vec<Mention<'a>>,
@@ -188,7 +188,7 @@ fn modifier<'a>(
 }
 
 #[cycle(mentions)]
-#[tactic(auto, using(bqn_syntax::specs::grammar::TreeEquations::levels, crate::specs::Levels::levels, crate::proofs::Backward::backward_laws))]
+#[tactic(auto, using(bqn_syntax::specs::grammar::TreeEquations::tree_equations, crate::specs::Levels::levels, crate::proofs::Backward::backward_laws))]
 fn exprs<'a>(
     alloc: Global,
     mentions: &mut Vec<Mention<'a>>,
@@ -203,7 +203,7 @@ fn exprs<'a>(
 }
 
 #[cycle(mentions)]
-#[tactic(auto, using(bqn_syntax::specs::grammar::TreeEquations::levels, crate::specs::Levels::levels, crate::proofs::Backward::backward_laws))]
+#[tactic(auto, using(bqn_syntax::specs::grammar::TreeEquations::tree_equations, crate::specs::Levels::levels, crate::proofs::Backward::backward_laws))]
 fn parts<'a>(
     alloc: Global,
     mentions: &mut Vec<Mention<'a>>,
@@ -218,7 +218,7 @@ fn parts<'a>(
 }
 
 #[cycle(mentions)]
-#[tactic(auto, using(bqn_syntax::specs::grammar::TreeEquations::levels, crate::specs::Levels::levels, crate::proofs::Backward::backward_laws))]
+#[tactic(auto, using(bqn_syntax::specs::grammar::TreeEquations::tree_equations, crate::specs::Levels::levels, crate::proofs::Backward::backward_laws))]
 fn steps_of<'a>(
     alloc: Global,
     mentions: &mut Vec<Mention<'a>>,
@@ -233,7 +233,7 @@ fn steps_of<'a>(
 }
 
 #[cycle(mentions)]
-#[tactic(auto, using(bqn_syntax::specs::grammar::TreeEquations::levels, crate::specs::Levels::levels, crate::proofs::Backward::backward_laws))]
+#[tactic(auto, using(bqn_syntax::specs::grammar::TreeEquations::tree_equations, crate::specs::Levels::levels, crate::proofs::Backward::backward_laws))]
 fn uses<'a>(
     alloc: Global,
     mentions: &mut Vec<Mention<'a>>,
@@ -248,7 +248,7 @@ fn uses<'a>(
 }
 
 #[cycle(mentions)]
-#[tactic(auto, using(bqn_syntax::specs::grammar::TreeEquations::levels, crate::specs::Levels::levels, crate::proofs::Backward::backward_laws))]
+#[tactic(auto, using(bqn_syntax::specs::grammar::TreeEquations::tree_equations, crate::specs::Levels::levels, crate::proofs::Backward::backward_laws))]
 fn deriveds<'a>(
     alloc: Global,
     mentions: &mut Vec<Mention<'a>>,
@@ -263,7 +263,7 @@ fn deriveds<'a>(
 }
 
 #[cycle(mentions)]
-#[tactic(auto, using(bqn_syntax::specs::grammar::TreeEquations::levels, crate::specs::Levels::levels, crate::proofs::Backward::backward_laws))]
+#[tactic(auto, using(bqn_syntax::specs::grammar::TreeEquations::tree_equations, crate::specs::Levels::levels, crate::proofs::Backward::backward_laws))]
 fn stmt<'a>(alloc: Global, mentions: &mut Vec<Mention<'a>>, s: &'a Stmt) -> Result<(), NoMemory>
     ensures { OnOk result (mentions_backward mentions.new.items ≡ stmt_mentions (stmt_of s.now) (mentions_backward mentions.old.items)) }
 {
@@ -274,7 +274,7 @@ fn stmt<'a>(alloc: Global, mentions: &mut Vec<Mention<'a>>, s: &'a Stmt) -> Resu
 }
 
 #[cycle(mentions)]
-#[tactic(auto, using(bqn_syntax::specs::grammar::TreeEquations::levels, crate::specs::Levels::levels, crate::proofs::Backward::backward_laws))]
+#[tactic(auto, using(bqn_syntax::specs::grammar::TreeEquations::tree_equations, crate::specs::Levels::levels, crate::proofs::Backward::backward_laws))]
 fn statements<'a>(
     alloc: Global,
     mentions: &mut Vec<Mention<'a>>,
@@ -289,7 +289,7 @@ fn statements<'a>(
 }
 
 #[cycle(mentions)]
-#[tactic(auto, using(bqn_syntax::specs::grammar::TreeEquations::levels, crate::specs::Levels::levels, crate::proofs::Backward::backward_laws))]
+#[tactic(auto, using(bqn_syntax::specs::grammar::TreeEquations::tree_equations, crate::specs::Levels::levels, crate::proofs::Backward::backward_laws))]
 fn bodies<'a>(alloc: Global, all: &'a [BodyTree]) -> Result<Row<Own<'a>>, NoMemory>
     ensures { IfOk result (λ row. scopes_shown row ≡ scopes_of (bodies (map body_of all.now))) }
 {
@@ -303,7 +303,7 @@ fn bodies<'a>(alloc: Global, all: &'a [BodyTree]) -> Result<Row<Own<'a>>, NoMemo
 }
 
 #[cycle(mentions)]
-#[tactic(auto, using(bqn_syntax::specs::grammar::TreeEquations::levels, crate::specs::Levels::levels, crate::proofs::Backward::backward_laws))]
+#[tactic(auto, using(bqn_syntax::specs::grammar::TreeEquations::tree_equations, crate::specs::Levels::levels, crate::proofs::Backward::backward_laws))]
 fn body<'a>(alloc: Global, b: &'a BodyTree) -> Result<Own<'a>, NoMemory>
     ensures { IfOk result (λ own. own_of own ≡ own_shown (body_of b.now)) }
 {
@@ -321,7 +321,7 @@ fn body<'a>(alloc: Global, b: &'a BodyTree) -> Result<Own<'a>, NoMemory>
 }
 
 /// The mentions of a program's own body, in text order.
-#[tactic(auto, using(bqn_syntax::specs::grammar::TreeEquations::levels, crate::specs::Levels::levels, crate::proofs::Backward::backward_laws))]
+#[tactic(auto, using(bqn_syntax::specs::grammar::TreeEquations::tree_equations, crate::specs::Levels::levels, crate::proofs::Backward::backward_laws))]
 pub fn mentions_of<'a>(alloc: Global, body: &'a [Stmt]) -> Result<Vec<Mention<'a>>, NoMemory>
     ensures { IfOk result (λ mentions. mentions_shown mentions.items ≡ stmts_mentions (stmts (map stmt_of body.now)) no_mentions) }
 {

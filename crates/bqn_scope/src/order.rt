@@ -22,7 +22,7 @@ pub fn by_arrow(arrow: Arrow) -> How
 }
 
 /// Puts a name in front of events that stand from the last to the first, as each function here does.
-#[tactic(auto, using(bqn_syntax::specs::grammar::TreeEquations::levels, crate::proofs::Backward::backward_laws))]
+#[tactic(auto, using(bqn_syntax::specs::grammar::TreeEquations::tree_equations, crate::proofs::Backward::backward_laws))]
 fn leaf<'a>(events: &mut Vec<Event<'a>>, how: How, token: &'a Token) -> Result<(), NoMemory>
     ensures { OnOk result (events_backward events.new.items ≡ leaf_order (how_shown how) token.now.kind token.now (events_backward events.old.items)) }
 {
@@ -33,7 +33,7 @@ fn leaf<'a>(events: &mut Vec<Event<'a>>, how: How, token: &'a Token) -> Result<(
 }
 
 #[cycle(pattern)]
-#[tactic(auto, using(bqn_syntax::specs::grammar::TreeEquations::levels, crate::proofs::Backward::backward_laws))]
+#[tactic(auto, using(bqn_syntax::specs::grammar::TreeEquations::tree_equations, crate::proofs::Backward::backward_laws))]
 fn pattern<'a>(events: &mut Vec<Event<'a>>, how: How, q: &'a Pattern) -> Result<(), NoMemory>
     ensures { OnOk result (events_backward events.new.items ≡ pattern_order (how_shown how) (pattern_of q.now) (events_backward events.old.items)) }
 {
@@ -46,7 +46,7 @@ fn pattern<'a>(events: &mut Vec<Event<'a>>, how: How, q: &'a Pattern) -> Result<
 }
 
 #[cycle(pattern)]
-#[tactic(auto, using(bqn_syntax::specs::grammar::TreeEquations::levels, crate::proofs::Backward::backward_laws))]
+#[tactic(auto, using(bqn_syntax::specs::grammar::TreeEquations::tree_equations, crate::proofs::Backward::backward_laws))]
 fn patterns<'a>(events: &mut Vec<Event<'a>>, how: How, all: &'a [Pattern]) -> Result<(), NoMemory>
     ensures { OnOk result (events_backward events.new.items ≡ patterns_order (how_shown how) (patterns (map pattern_of all.now)) (events_backward events.old.items)) }
 {
@@ -56,7 +56,7 @@ fn patterns<'a>(events: &mut Vec<Event<'a>>, how: How, all: &'a [Pattern]) -> Re
     Ok(())
 }
 
-#[tactic(auto, using(bqn_syntax::specs::grammar::TreeEquations::levels, crate::proofs::Backward::backward_laws))]
+#[tactic(auto, using(bqn_syntax::specs::grammar::TreeEquations::tree_equations, crate::proofs::Backward::backward_laws))]
 fn targets<'a>(events: &mut Vec<Event<'a>>, all: &'a [(Token, Arrow)]) -> Result<(), NoMemory>
     ensures { OnOk result (events_backward events.new.items ≡ targets_order all.now (events_backward events.old.items)) }
 {
@@ -67,7 +67,7 @@ fn targets<'a>(events: &mut Vec<Event<'a>>, all: &'a [(Token, Arrow)]) -> Result
 }
 
 #[cycle(order)]
-#[tactic(auto, using(bqn_syntax::specs::grammar::TreeEquations::levels, crate::proofs::Backward::backward_laws, crate::proofs::Unstarted::unstarted_laws))]
+#[tactic(auto, using(bqn_syntax::specs::grammar::TreeEquations::tree_equations, crate::proofs::Backward::backward_laws, crate::proofs::Unstarted::unstarted_laws))]
 fn expr<'a>(events: &mut Vec<Event<'a>>, e: &'a Expr) -> Result<(), NoMemory>
     ensures { OnOk result (events_backward events.new.items ≡ expr_order (expr_of e.now) (events_backward events.old.items)) }
 {
@@ -97,7 +97,7 @@ fn expr<'a>(events: &mut Vec<Event<'a>>, e: &'a Expr) -> Result<(), NoMemory>
 }
 
 #[cycle(order)]
-#[tactic(auto, using(bqn_syntax::specs::grammar::TreeEquations::levels, crate::proofs::Backward::backward_laws, crate::proofs::Unstarted::unstarted_laws))]
+#[tactic(auto, using(bqn_syntax::specs::grammar::TreeEquations::tree_equations, crate::proofs::Backward::backward_laws, crate::proofs::Unstarted::unstarted_laws))]
 fn unstarted<'a>(events: &mut Vec<Event<'a>>, all: &'a [Step]) -> Result<(), NoMemory>
     ensures { OnOk result (events_backward events.new.items ≡ unstarted_order (steps (map step_of all.now)) (events_backward events.old.items)) }
 {
@@ -116,7 +116,7 @@ fn unstarted<'a>(events: &mut Vec<Event<'a>>, all: &'a [Step]) -> Result<(), NoM
 }
 
 #[cycle(order)]
-#[tactic(auto, using(bqn_syntax::specs::grammar::TreeEquations::levels, crate::proofs::Backward::backward_laws, crate::proofs::Unstarted::unstarted_laws))]
+#[tactic(auto, using(bqn_syntax::specs::grammar::TreeEquations::tree_equations, crate::proofs::Backward::backward_laws, crate::proofs::Unstarted::unstarted_laws))]
 fn part<'a>(events: &mut Vec<Event<'a>>, x: &'a Part) -> Result<(), NoMemory>
     ensures { OnOk result (events_backward events.new.items ≡ part_order (part_of x.now) (events_backward events.old.items)) }
 {
@@ -132,7 +132,7 @@ fn part<'a>(events: &mut Vec<Event<'a>>, x: &'a Part) -> Result<(), NoMemory>
 }
 
 #[cycle(order)]
-#[tactic(auto, using(bqn_syntax::specs::grammar::TreeEquations::levels, crate::proofs::Backward::backward_laws, crate::proofs::Unstarted::unstarted_laws))]
+#[tactic(auto, using(bqn_syntax::specs::grammar::TreeEquations::tree_equations, crate::proofs::Backward::backward_laws, crate::proofs::Unstarted::unstarted_laws))]
 fn step<'a>(events: &mut Vec<Event<'a>>, s: &'a Step) -> Result<(), NoMemory>
     ensures { OnOk result (events_backward events.new.items ≡ step_order (step_of s.now) (events_backward events.old.items)) }
 {
@@ -152,7 +152,7 @@ fn step<'a>(events: &mut Vec<Event<'a>>, s: &'a Step) -> Result<(), NoMemory>
 }
 
 #[cycle(order)]
-#[tactic(auto, using(bqn_syntax::specs::grammar::TreeEquations::levels, crate::proofs::Backward::backward_laws, crate::proofs::Unstarted::unstarted_laws))]
+#[tactic(auto, using(bqn_syntax::specs::grammar::TreeEquations::tree_equations, crate::proofs::Backward::backward_laws, crate::proofs::Unstarted::unstarted_laws))]
 fn derived<'a>(events: &mut Vec<Event<'a>>, d: &'a Derived) -> Result<(), NoMemory>
     ensures { OnOk result (events_backward events.new.items ≡ derived_order (derived_of d.now) (events_backward events.old.items)) }
 {
@@ -161,7 +161,7 @@ fn derived<'a>(events: &mut Vec<Event<'a>>, d: &'a Derived) -> Result<(), NoMemo
 }
 
 #[cycle(order)]
-#[tactic(auto, using(bqn_syntax::specs::grammar::TreeEquations::levels, crate::proofs::Backward::backward_laws, crate::proofs::Unstarted::unstarted_laws))]
+#[tactic(auto, using(bqn_syntax::specs::grammar::TreeEquations::tree_equations, crate::proofs::Backward::backward_laws, crate::proofs::Unstarted::unstarted_laws))]
 fn modifier<'a>(events: &mut Vec<Event<'a>>, u: &'a ModUse) -> Result<(), NoMemory>
     ensures { OnOk result (events_backward events.new.items ≡ use_order (use_of u.now) (events_backward events.old.items)) }
 {
@@ -175,7 +175,7 @@ fn modifier<'a>(events: &mut Vec<Event<'a>>, u: &'a ModUse) -> Result<(), NoMemo
 }
 
 #[cycle(order)]
-#[tactic(auto, using(bqn_syntax::specs::grammar::TreeEquations::levels, crate::proofs::Backward::backward_laws, crate::proofs::Unstarted::unstarted_laws))]
+#[tactic(auto, using(bqn_syntax::specs::grammar::TreeEquations::tree_equations, crate::proofs::Backward::backward_laws, crate::proofs::Unstarted::unstarted_laws))]
 fn exprs<'a>(events: &mut Vec<Event<'a>>, all: &'a [Expr]) -> Result<(), NoMemory>
     ensures { OnOk result (events_backward events.new.items ≡ exprs_order (exprs (map expr_of all.now)) (events_backward events.old.items)) }
 {
@@ -186,7 +186,7 @@ fn exprs<'a>(events: &mut Vec<Event<'a>>, all: &'a [Expr]) -> Result<(), NoMemor
 }
 
 #[cycle(order)]
-#[tactic(auto, using(bqn_syntax::specs::grammar::TreeEquations::levels, crate::proofs::Backward::backward_laws, crate::proofs::Unstarted::unstarted_laws))]
+#[tactic(auto, using(bqn_syntax::specs::grammar::TreeEquations::tree_equations, crate::proofs::Backward::backward_laws, crate::proofs::Unstarted::unstarted_laws))]
 fn parts<'a>(events: &mut Vec<Event<'a>>, all: &'a [Part]) -> Result<(), NoMemory>
     ensures { OnOk result (events_backward events.new.items ≡ parts_order (parts (map part_of all.now)) (events_backward events.old.items)) }
 {
@@ -197,7 +197,7 @@ fn parts<'a>(events: &mut Vec<Event<'a>>, all: &'a [Part]) -> Result<(), NoMemor
 }
 
 #[cycle(order)]
-#[tactic(auto, using(bqn_syntax::specs::grammar::TreeEquations::levels, crate::proofs::Backward::backward_laws, crate::proofs::Unstarted::unstarted_laws))]
+#[tactic(auto, using(bqn_syntax::specs::grammar::TreeEquations::tree_equations, crate::proofs::Backward::backward_laws, crate::proofs::Unstarted::unstarted_laws))]
 fn steps_of<'a>(events: &mut Vec<Event<'a>>, all: &'a [Step]) -> Result<(), NoMemory>
     ensures { OnOk result (events_backward events.new.items ≡ steps_order (steps (map step_of all.now)) (events_backward events.old.items)) }
 {
@@ -208,7 +208,7 @@ fn steps_of<'a>(events: &mut Vec<Event<'a>>, all: &'a [Step]) -> Result<(), NoMe
 }
 
 #[cycle(order)]
-#[tactic(auto, using(bqn_syntax::specs::grammar::TreeEquations::levels, crate::proofs::Backward::backward_laws, crate::proofs::Unstarted::unstarted_laws))]
+#[tactic(auto, using(bqn_syntax::specs::grammar::TreeEquations::tree_equations, crate::proofs::Backward::backward_laws, crate::proofs::Unstarted::unstarted_laws))]
 fn uses<'a>(events: &mut Vec<Event<'a>>, all: &'a [ModUse]) -> Result<(), NoMemory>
     ensures { OnOk result (events_backward events.new.items ≡ uses_order (uses (map use_of all.now)) (events_backward events.old.items)) }
 {
@@ -219,7 +219,7 @@ fn uses<'a>(events: &mut Vec<Event<'a>>, all: &'a [ModUse]) -> Result<(), NoMemo
 }
 
 #[cycle(order)]
-#[tactic(auto, using(bqn_syntax::specs::grammar::TreeEquations::levels, crate::proofs::Backward::backward_laws, crate::proofs::Unstarted::unstarted_laws))]
+#[tactic(auto, using(bqn_syntax::specs::grammar::TreeEquations::tree_equations, crate::proofs::Backward::backward_laws, crate::proofs::Unstarted::unstarted_laws))]
 fn deriveds<'a>(events: &mut Vec<Event<'a>>, all: &'a [Derived]) -> Result<(), NoMemory>
     ensures { OnOk result (events_backward events.new.items ≡ deriveds_order (deriveds (map derived_of all.now)) (events_backward events.old.items)) }
 {
@@ -229,7 +229,7 @@ fn deriveds<'a>(events: &mut Vec<Event<'a>>, all: &'a [Derived]) -> Result<(), N
     Ok(())
 }
 
-#[tactic(auto, using(bqn_syntax::specs::grammar::TreeEquations::levels, crate::proofs::Backward::backward_laws))]
+#[tactic(auto, using(bqn_syntax::specs::grammar::TreeEquations::tree_equations, crate::proofs::Backward::backward_laws))]
 fn stmt<'a>(events: &mut Vec<Event<'a>>, s: &'a Stmt) -> Result<(), NoMemory>
     ensures { OnOk result (events_backward events.new.items ≡ stmt_order (stmt_of s.now) (events_backward events.old.items)) }
 {
@@ -239,7 +239,7 @@ fn stmt<'a>(events: &mut Vec<Event<'a>>, s: &'a Stmt) -> Result<(), NoMemory>
     }
 }
 
-#[tactic(auto, using(bqn_syntax::specs::grammar::TreeEquations::levels, crate::proofs::Backward::backward_laws))]
+#[tactic(auto, using(bqn_syntax::specs::grammar::TreeEquations::tree_equations, crate::proofs::Backward::backward_laws))]
 fn statements<'a>(events: &mut Vec<Event<'a>>, all: &'a [Stmt]) -> Result<(), NoMemory>
     ensures { OnOk result (events_backward events.new.items ≡ stmts_order (stmts (map stmt_of all.now)) (events_backward events.old.items)) }
 {
@@ -249,7 +249,7 @@ fn statements<'a>(events: &mut Vec<Event<'a>>, all: &'a [Stmt]) -> Result<(), No
     Ok(())
 }
 
-#[tactic(auto, using(bqn_syntax::specs::grammar::TreeEquations::levels, crate::proofs::Backward::backward_laws))]
+#[tactic(auto, using(bqn_syntax::specs::grammar::TreeEquations::tree_equations, crate::proofs::Backward::backward_laws))]
 fn header<'a>(events: &mut Vec<Event<'a>>, h: &'a Header) -> Result<(), NoMemory>
     ensures { OnOk result (events_backward events.new.items ≡ header_order (Some (header_of h.now)) (events_backward events.old.items)) }
 {

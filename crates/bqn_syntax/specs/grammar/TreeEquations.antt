@@ -115,4 +115,4 @@ body-out b = search (rules, the_lemmas)
 pub derived-out : (d : CodeDerived) → derived_of d ≡ derived (part_of (out-Derived d).first) (uses (map use_of (out-Derived d).uses))
 derived-out d = search (rules, the_lemmas)
 
-pub ruleset levels = (pattern-Name, pattern-Skip, pattern-Literal, pattern-List, pattern-Strand, expr-Value, expr-Value-none, expr-Value-some, expr-Train, expr-Modifier, use-One, use-Two, part-Leaf, part-List, part-Merge, part-Paren, part-Block, part-Field, part-Strand, part-Nothing, step-Apply, step-Apply-none, step-Apply-some, step-Assign, step-Modify, stmt-Eval, stmt-Predicate, stmt-Export, block-out, body-out, derived-out)
+pub ruleset tree_equations = (pattern-Name, pattern-Skip, pattern-Literal, pattern-List, pattern-Strand, expr-Value, expr-Value-none, expr-Value-some, expr-Train, expr-Modifier, use-One, use-Two, part-Leaf, part-List, part-Merge, part-Paren, part-Block, part-Field, part-Strand, part-Nothing, step-Apply, step-Apply-none, step-Apply-some, step-Assign, step-Modify, stmt-Eval, stmt-Predicate, stmt-Export, block-out, body-out, derived-out)
