@@ -1,12 +1,15 @@
 -- The rows of arithmetic and the printed texts, computed.
-use Rattle.std.proofs.Common.{◌≡◌, ℤ, pos, negsuc, Ok, Err, refl, [], ◌∷◌, ◌++◌}
+use Rattle.std.proofs.Common.{◌≡◌, ℤ, pos, negsuc, Some, None, Ok, Err, refl, [], ◌∷◌, ◌++◌, length}
 use Rattle.std.specs.Prelude.{codes}
 use Rattle.std.specs.Fmt.{digits}
-use Rattle.bqn_base.specs.declared.fault.Fault.TheVariants.{Assert, Overflow}
-use Rattle.bqn_base.specs.declared.refusal.Refusal.TheVariants.{NotUtf8, BadChar, TooLong, NotYet}
+use Rattle.bqn_base.specs.declared.fault.Fault.TheVariants.{Assert, Overflow, CharRange}
+use Rattle.bqn_base.specs.declared.refusal.Refusal.TheVariants.{NotUtf8, BadChar, BadName, TooLong, NotYet}
+use Rattle.bqn_base.specs.Characters.{newline, macron, infinity}
 use Rattle.bqn_base.specs.Arithmetic.{sum_of, difference_of, product_of, negative_of, sign_of}
 use Rattle.bqn_base.specs.Literal.{literal, Number, Bad, Range, unquoted}
-use Rattle.bqn_base.specs.Printed.{number_text, error_line, refusal_line}
+use Rattle.bqn_base.specs.Printed.{number_text, place_text, error_line, refusal_line}
+use Rattle.bqn_base.specs.Shifts.{shift_of, distance_of}
+use Rattle.bqn_base.specs.Signs.{primitive_functions, one_operand_modifiers, two_operand_modifiers, system_names}
 
 -- 2^63 - 1 and -2^63
 abbrev greatest : ℤ
@@ -55,35 +58,65 @@ text_of_zero : number_text (pos 0) ≡ codes "0"
 unfolding digits
 text_of_zero = refl
 
-text_of_negative : number_text (negsuc 4) ≡ 175 ∷ codes "5"
+text_of_negative : number_text (negsuc 4) ≡ macron ∷ codes "5"
 unfolding digits
 text_of_negative = refl
 
-text_of_least : number_text least ≡ 175 ∷ codes "9223372036854775808"
+text_of_least : number_text least ≡ macron ∷ codes "9223372036854775808"
 unfolding digits
 text_of_least = refl
 
-line_of_overflow : error_line Overflow ≡ codes "Error: Overflow" ++ 10 ∷ []
+line_of_overflow : error_line Overflow (Some (record { line = 1; column = 26 })) ≡ codes "Error: Overflow at 1:26" ++ newline ∷ []
+unfolding digits
 line_of_overflow = refl
 
-line_of_message : error_line (Assert (codes "no")) ≡ codes "Error: Assert: no" ++ 10 ∷ []
+line_without_place : error_line Overflow None ≡ codes "Error: Overflow" ++ newline ∷ []
+line_without_place = refl
+
+line_of_message : error_line (Assert (codes "no")) (Some (record { line = 1; column = 5 })) ≡ codes "Error: Assert at 1:5: no" ++ newline ∷ []
+unfolding digits
 line_of_message = refl
 
-line_without_message : error_line (Assert []) ≡ codes "Error: Assert" ++ 10 ∷ []
+line_without_message : error_line (Assert []) (Some (record { line = 1; column = 1 })) ≡ codes "Error: Assert at 1:1" ++ newline ∷ []
+unfolding digits
 line_without_message = refl
 
-line_of_place : refusal_line (BadChar (record { line = 2; column = 13 })) ≡ codes "Refused: BadChar 2:13" ++ 10 ∷ []
+line_of_message_alone : error_line (Assert (codes "no")) None ≡ codes "Error: Assert: no" ++ newline ∷ []
+line_of_message_alone = refl
+
+-- places on line 2^25, on the next one, and on line 3 × 2^25 + 7
+place_counted_last : place_text (record { line = 33554432; column = 9 }) ≡ codes "33554432:9"
+unfolding digits
+place_counted_last = refl
+
+place_counted_anew : place_text (record { line = 33554433; column = 9 }) ≡ codes "#1 1:9"
+unfolding digits
+place_counted_anew = refl
+
+place_far : place_text (record { line = 100663303; column = 12 }) ≡ codes "#3 7:12"
+unfolding digits
+place_far = refl
+
+place_counted_twice : place_text (record { line = 67108864; column = 1 }) ≡ codes "#1 33554432:1"
+unfolding digits
+place_counted_twice = refl
+
+line_of_far_place : refusal_line (BadName (record { line = 33554433; column = 2 })) ≡ codes "Refused: BadName #1 1:2" ++ newline ∷ []
+unfolding digits
+line_of_far_place = refl
+
+line_of_place : refusal_line (BadChar (record { line = 2; column = 13 })) ≡ codes "Refused: BadChar 2:13" ++ newline ∷ []
 unfolding digits
 line_of_place = refl
 
-line_of_bytes : refusal_line (NotUtf8 2) ≡ codes "Refused: NotUtf8 at byte 2" ++ 10 ∷ []
+line_of_bytes : refusal_line (NotUtf8 2) ≡ codes "Refused: NotUtf8 at byte 2" ++ newline ∷ []
 unfolding digits
 line_of_bytes = refl
 
-line_too_long : refusal_line TooLong ≡ codes "Refused: TooLong" ++ 10 ∷ []
+line_too_long : refusal_line TooLong ≡ codes "Refused: TooLong" ++ newline ∷ []
 line_too_long = refl
 
-line_not_yet : refusal_line NotYet ≡ codes "Refused: NotYet" ++ 10 ∷ []
+line_not_yet : refusal_line NotYet ≡ codes "Refused: NotYet" ++ newline ∷ []
 line_not_yet = refl
 
 -- literals
@@ -93,13 +126,13 @@ literal_of_thousand = refl
 literal_with_underscores : literal (codes "_1_0_e_3") ≡ Number (pos 10000)
 literal_with_underscores = refl
 
-literal_of_negative : literal (175 ∷ codes "_15") ≡ Number (negsuc 14)
+literal_of_negative : literal (macron ∷ codes "_15") ≡ Number (negsuc 14)
 literal_of_negative = refl
 
-literal_down : literal (codes "10e" ++ 175 ∷ codes "1") ≡ Number (pos 1)
+literal_down : literal (codes "10e" ++ macron ∷ codes "1") ≡ Number (pos 1)
 literal_down = refl
 
-literal_not_whole : literal (codes "15e" ++ 175 ∷ codes "1") ≡ Range
+literal_not_whole : literal (codes "15e" ++ macron ∷ codes "1") ≡ Range
 literal_not_whole = refl
 
 literal_of_half : literal (codes "1.5") ≡ Range
@@ -117,26 +150,58 @@ literal_of_greatest = refl
 literal_past_greatest : literal (codes "9223372036854775808") ≡ Range
 literal_past_greatest = refl
 
-literal_of_least : literal (175 ∷ codes "9223372036854775808") ≡ Number (negsuc 9223372036854775807)
+literal_of_least : literal (macron ∷ codes "9223372036854775808") ≡ Number (negsuc 9223372036854775807)
 literal_of_least = refl
 
-literal_past_least : literal (175 ∷ codes "9223372036854775809") ≡ Range
+literal_past_least : literal (macron ∷ codes "9223372036854775809") ≡ Range
 literal_past_least = refl
 
 literal_bad : literal (codes "3i4") ≡ Bad
 literal_bad = refl
 
-literal_of_macron : literal (175 ∷ []) ≡ Bad
+literal_of_macron : literal (macron ∷ []) ≡ Bad
 literal_of_macron = refl
 
-literal_macron_inside : literal (codes "2" ++ 175 ∷ codes "3") ≡ Bad
+literal_macron_inside : literal (codes "2" ++ macron ∷ codes "3") ≡ Bad
 literal_macron_inside = refl
 
 literal_without_power : literal (codes "1e") ≡ Bad
 literal_without_power = refl
 
-literal_of_infinity : literal (8734 ∷ codes "x") ≡ Range
+literal_of_infinity : literal (infinity ∷ codes "x") ≡ Range
 literal_of_infinity = refl
 
 text_with_quotes : unquoted (codes "a\"\"b") ≡ codes "a\"b"
 text_with_quotes = refl
+
+-- characters
+shift_before_surrogates : shift_of 55294 (pos 1) ≡ Ok 55295
+shift_before_surrogates = refl
+
+shift_to_surrogate : shift_of 55295 (pos 1) ≡ Err CharRange
+shift_to_surrogate = refl
+
+shift_past_surrogates : shift_of 55295 (pos 2049) ≡ Ok 57344
+shift_past_surrogates = refl
+
+shift_past_last : shift_of 1114111 (pos 1) ≡ Err CharRange
+shift_past_last = refl
+
+shift_before_first : shift_of 0 (negsuc 0) ≡ Err CharRange
+shift_before_first = refl
+
+distance_back : distance_of 97 99 ≡ negsuc 1
+distance_back = refl
+
+-- signs and names of given values
+functions_counted : length primitive_functions ≡ 44
+functions_counted = refl
+
+one_operand_counted : length one_operand_modifiers ≡ 9
+one_operand_counted = refl
+
+two_operand_counted : length two_operand_modifiers ≡ 11
+two_operand_counted = refl
+
+system_names_counted : length system_names ≡ 6
+system_names_counted = refl

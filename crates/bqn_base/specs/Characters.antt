@@ -28,8 +28,23 @@ comma = 44
 abbrev pub dot : ℕ
 dot = 46
 
+abbrev pub zero_digit : ℕ
+zero_digit = 48
+
+abbrev pub nine_digit : ℕ
+nine_digit = 57
+
+abbrev pub colon : ℕ
+colon = 58
+
+abbrev pub capital_e : ℕ
+capital_e = 69
+
 abbrev pub underscore : ℕ
 underscore = 95
+
+abbrev pub small_e : ℕ
+small_e = 101
 
 abbrev pub delete : ℕ
 delete = 127
@@ -55,7 +70,7 @@ abbrev pub own_modifier : ℕ
 own_modifier = 120163
 
 abbrev pub is_digit : ℕ → Bool
-is_digit c = nat_le 48 c && nat_le c 57
+is_digit c = nat_le zero_digit c && nat_le c nine_digit
 
 abbrev pub is_lower : ℕ → Bool
 is_lower c = nat_le 97 c && nat_le c 122

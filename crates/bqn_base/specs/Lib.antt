@@ -6,5 +6,6 @@ pub mod Literal
 pub mod Places
 pub mod Printed
 pub mod Numbers
+pub mod Shifts
 pub mod Laws
 pub mod formers

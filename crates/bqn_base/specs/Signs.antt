@@ -7,9 +7,16 @@ use lib.Chars.{codes}
 abbrev pub primitive_functions : List ℕ
 primitive_functions = codes "+-×÷⋆√⌊⌈|¬∧∨<>≠=≤≥≡≢⊣⊢⥊∾≍⋈↑↓↕«»⌽⍉/⍋⍒⊏⊑⊐⊒∊⍷⊔!"
 
--- 9 with one operand, which are codes 44 to 52, and 11 with two, 53 to 63
+-- with one operand: codes 44 to 52
+abbrev pub one_operand_modifiers : List ℕ
+one_operand_modifiers = codes "˙˜˘¨⌜⁼´˝`"
+
+-- with two operands: codes 53 to 63
+abbrev pub two_operand_modifiers : List ℕ
+two_operand_modifiers = codes "∘○⊸⟜⌾⊘◶⎉⚇⍟⎊"
+
 abbrev pub primitive_modifiers : List ℕ
-primitive_modifiers = codes "˙˜˘¨⌜⁼´˝`" ++ codes "∘○⊸⟜⌾⊘◶⎉⚇⍟⎊"
+primitive_modifiers = one_operand_modifiers ++ two_operand_modifiers
 
 abbrev pub primitive_signs : List ℕ
 primitive_signs = primitive_functions ++ primitive_modifiers

@@ -2,11 +2,11 @@
 -- values. NoCompare is this project's own.
 use Rattle.std.specs.Prelude.{ℕ, Bool, true, false, not, ℤ, pos, negsuc, ◌+ℤ◌, ◌-ℤ◌, Result, Ok, Err}
 use Rattle.std.specs.declared.cmp.Ordering.{Ordering}
-use lib.Utf8.{scalar}
 use Rattle.bqn_base.specs.declared.fault.Fault.{Fault}
-use Rattle.bqn_base.specs.declared.fault.Fault.TheVariants.{Domain, CharRange}
+use Rattle.bqn_base.specs.declared.fault.Fault.TheVariants.{Domain}
 use Rattle.bqn_base.specs.Arithmetic.{sum_of, difference_of}
 use Rattle.bqn_base.specs.Numbers.{span_of}
+use Rattle.bqn_base.specs.Shifts.{shift_of, distance_of}
 use Rattle.bqn_rows.specs.Plain.{Value, Number, Character}
 use Rattle.bqn_rows.specs.Relations.{matching, ordered}
 
@@ -34,22 +34,13 @@ of_numbers row w x = Err Domain
 
 -- ---- characters
 
-abbrev pub if_scalar : Bool → ℕ → Result ℕ Fault
-if_scalar true c = Ok c
-if_scalar false c = Err CharRange
-
--- the character with this code: one of Unicode's, and no surrogate
-abbrev pub character_at : ℤ → Result ℕ Fault
-character_at (pos c) = if_scalar (scalar c) c
-character_at (negsuc c) = Err CharRange
-
 abbrev pub as_character : Result ℕ Fault → Result Value Fault
 as_character (Ok c) = Ok (Character c)
 as_character (Err f) = Err f
 
 -- the character that far on
 abbrev pub shifted : ℕ → ℤ → Result Value Fault
-shifted c n = as_character (character_at (pos c +ℤ n))
+shifted c n = as_character (shift_of c n)
 
 -- ---- rows that take characters
 
@@ -64,14 +55,14 @@ atom_sum w x = Err Domain
 abbrev pub atom_difference : Value → Value → Result Value Fault
 atom_difference (Number w) (Number x) = as_number (difference_of w x)
 atom_difference (Character w) (Number x) = shifted w (pos 0 -ℤ x)
-atom_difference (Character w) (Character x) = Ok (Number (pos w -ℤ pos x))
+atom_difference (Character w) (Character x) = Ok (Number (distance_of w x))
 atom_difference w x = Err Domain
 
 -- `w¬x`: the same and 1 more
 abbrev pub atom_span : Value → Value → Result Value Fault
 atom_span (Number w) (Number x) = as_number (span_of w x)
 atom_span (Character w) (Number x) = shifted w (pos 1 -ℤ x)
-atom_span (Character w) (Character x) = Ok (Number ((pos w -ℤ pos x) +ℤ pos 1))
+atom_span (Character w) (Character x) = Ok (Number (distance_of w x +ℤ pos 1))
 atom_span w x = Err Domain
 
 -- ---- comparisons
