@@ -1,3 +1,5 @@
 pub mod Fits
+pub mod Scalars
+pub mod Quotients
 pub mod Roots
 mod Samples

@@ -1,6 +1,7 @@
 //! The types and the rows that every other crate stands on.
 #![tactic(auto)]
 
+pub mod chr;
 mod fault;
 pub mod laws;
 pub mod num;

@@ -1,5 +1,61 @@
-use crate::{Fault, Name, Row, Text, num};
+use crate::{Fault, Name, Row, Text, chr, num};
 use std::test::Fail;
+
+// The answer, as a text can compare it.
+fn shown(answer: Result<i64, Fault>) -> Result<i64, &'static str> {
+    match answer {
+        Ok(number) => Ok(number),
+        Err(Fault::Overflow) => Err("Overflow"),
+        Err(Fault::NotWhole) => Err("NotWhole"),
+        Err(Fault::DivideByZero) => Err("DivideByZero"),
+        Err(_) => Err("another fault"),
+    }
+}
+
+#[test]
+fn quotients(rt: HostRuntime) -> Result<(), Fail> {
+    // Two numbers and their quotient.
+    let rows = [
+        (i64::MIN, -1, Err("Overflow")),
+        (-3, 7, Err("NotWhole")),
+        (-12, -3, Ok(4)),
+        (-1, i64::MIN, Err("NotWhole")),
+        (0, 5, Ok(0)),
+        (5, 0, Err("DivideByZero")),
+    ];
+    for (w, x, quotient) in rows {
+        assert_eq!(rt; shown(num::div(w, x)), quotient, "{w} ÷ {x}");
+    }
+    assert_eq!(rt; shown(num::reciprocal(-1)), Ok(-1));
+    assert_eq!(rt; shown(num::exponential(0)), Ok(1));
+    Ok(())
+}
+
+#[test]
+fn spans(rt: HostRuntime) -> Result<(), Fail> {
+    // Two numbers and how far they span.
+    let rows = [
+        (i64::MAX, 0, Err("Overflow")),
+        (0, i64::MIN, Err("Overflow")),
+        (-2, i64::MAX, Ok(i64::MIN)),
+        (i64::MAX, 1, Ok(i64::MAX)),
+    ];
+    for (w, x, span) in rows {
+        assert_eq!(rt; shown(num::span(w, x)), span, "{w} ¬ {x}");
+    }
+    assert_eq!(rt; shown(num::abs(i64::MIN)), Err("Overflow"));
+    assert_eq!(rt; shown(num::not_of(i64::MIN)), Err("Overflow"));
+    Ok(())
+}
+
+#[test]
+fn characters(rt: HostRuntime) -> Result<(), Fail> {
+    assert_eq!(rt; chr::shift('a', 2).ok(), Some('c'));
+    assert_eq!(rt; chr::shift('\u{D7FF}', 1).ok(), None);
+    assert_eq!(rt; chr::shift('a', i64::MAX).ok(), None);
+    assert_eq!(rt; chr::minus('a', 'c'), -2);
+    Ok(())
+}
 
 // The number, or none where it overflows.
 fn number(answer: Result<i64, Fault>) -> Result<Option<i64>, Fail> {
