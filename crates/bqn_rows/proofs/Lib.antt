@@ -9,3 +9,4 @@ pub mod Questioning
 pub mod Stamping
 mod ValueSamples
 mod CallSamples
+mod RowSamples

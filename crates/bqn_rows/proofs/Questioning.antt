@@ -1,7 +1,6 @@
 -- The walk through a call asks and answers as a run of the call on the same replies does.
 use Rattle.std.proofs.Common.{◌≡◌, ℕ, zero, suc, List, [], ◌∷◌, Err, refl, ◌∙◌}
 use Rattle.bqn_base.specs.declared.fault.Fault.TheVariants.{TooDeep}
-use Rattle.bqn_rows.specs.Plain.{Value}
 use Rattle.bqn_rows.specs.Raised.{Answer, unplaced}
 use Rattle.bqn_rows.specs.Calls as c
 use Rattle.bqn_rows.specs.Calls.{Arguments, Call, call}

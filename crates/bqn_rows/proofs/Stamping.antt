@@ -1,5 +1,5 @@
 -- A place is given once.
-use Rattle.std.proofs.Common.{◌≡◌, ℕ, zero, suc, Option, Some, None, refl, ap}
+use Rattle.std.proofs.Common.{◌≡◌, ℕ, zero, suc, Option, Some, None, refl}
 use Rattle.bqn_base.specs.declared.fault.Fault.{Fault}
 use Rattle.bqn_base.specs.declared.place.Place.{Place}
 use Rattle.bqn_base.specs.Places.{nowhere, first_of, on_line}

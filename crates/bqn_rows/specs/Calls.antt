@@ -1,12 +1,13 @@
 -- What a call does, as far as the values alone tell it: BQN's pages on evaluation, on trains and on expressions. A call of a block
 -- asks the evaluation that it stands in; the form of such questions is this project's own.
-use Rattle.std.specs.Prelude.{ℕ, ◌-◌, nat_lt, true, false, pos, List, [], ◌∷◌, slice_get, Option, Some, None, Result, Ok, Err}
+use Rattle.std.specs.Prelude.{ℕ, ◌-◌, nat_lt, Bool, true, false, pos, List, [], ◌∷◌, map, slice_get, Option, Some, None, Result, Ok, Err}
 use Rattle.bqn_base.specs.declared.fault.Fault.{Fault}
 use Rattle.bqn_base.specs.declared.fault.Fault.TheVariants.{Domain, NotCallable}
 use Rattle.bqn_rows.specs.Plain.{Atop, Fork, Value, Number, Character, Array, Given, Derived, Function, Modifier1, Modifier2, Namespace, Values, none, more, kind, kind_number}
-use Rattle.bqn_rows.specs.Primitives.{Primitive, primitives, monadic, dyadic, row_to_come}
+use Rattle.bqn_rows.specs.Arrays.{list_of}
+use Rattle.bqn_rows.specs.Primitives.{Primitive, primitives, monadic, dyadic}
 use Rattle.bqn_base.specs.Printed.{line}
-use Rattle.bqn_rows.specs.Shown.{shown}
+use Rattle.bqn_rows.specs.Shown.{shown, formatted, are_characters}
 use Rattle.bqn_rows.specs.Raised.{Answer, unplaced, raised}
 
 -- what a block is run on: nothing, a right argument, or a left one too
@@ -71,13 +72,32 @@ pub data System : Type 0 where
 abbrev pub systems : List System
 systems = out ∷ show ∷ repr ∷ format ∷ type ∷ []
 
--- Whatever gives or takes an array is still to be defined.
+-- these characters as a list; no characters have the space as fill
+abbrev pub text_value : List ℕ → Result Value Fault
+text_value text = list_of (map (λ c. Character c) text) (Some (Character 32))
+
+-- a list of characters, or an empty list
+abbrev pub is_text : Value → Bool
+is_text (Array (n ∷ []) xs f) = are_characters xs
+is_text x = false
+
+abbrev pub answer_of_out : (text : Bool) → Value → Call
+answer_of_out true x = Write (line (formatted x)) (λ u. answer x)
+answer_of_out false x = fault Domain
+
+-- a list of characters, or an empty list, as it is; anything else as its text
+abbrev pub answer_of_format : (text : Bool) → Value → Call
+answer_of_format true x = answer x
+answer_of_format false x = known (text_value (formatted x))
+
+-- `•Out` writes a text and answers it, `•Show` writes the text of any value and answers the value, `•Repr` answers that text, and `•Fmt` too
+-- but of a text itself and of a character alone
 abbrev pub system_call : System → Value → Call
+system_call out x = answer_of_out (is_text x) x
 system_call show x = Write (line (shown x)) (λ u. answer x)
+system_call repr x = known (text_value (shown x))
+system_call format x = answer_of_format (is_text x) x
 system_call type x = answer (Number (pos (kind_number (kind x))))
-system_call out (Array shape xs f) = known row_to_come
-system_call out x = fault Domain
-system_call _ x = known row_to_come
 
 -- a system function has no left argument; a primitive modifier is no function
 abbrev pub called_system : Option System → Option Value → Value → Call
