@@ -1,3 +1,4 @@
+pub mod Identity
 pub mod Matching
 pub mod Order
 pub mod Ties

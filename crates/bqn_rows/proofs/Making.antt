@@ -3,7 +3,7 @@ use Rattle.std.proofs.Common.{◌≡◌, ◌≤◌, ◌^◌, ℕ, Bool, true, fa
 use Rattle.std.proofs.lemmas.Bool.{and_parts, and_from}
 use Rattle.bqn_rows.specs.Plain.{Maker, Value, Array, Derived, Function, Values, none, more, Fill, unfilled, count}
 use Rattle.bqn_rows.specs.Relations.{weight, height, extent, prototype}
-use Rattle.bqn_rows.specs.Limits.{places, size, is_shape, is_small, is_low, is_within, if_within, made, kept, carrying, array, derived, block_function, is_made_of, is_same_as, is_fill, fits_elements, proper, all_proper, proper_fill}
+use Rattle.bqn_rows.specs.Limits.{places, size, is_shape, is_small, is_low, is_within, if_within, made, kept, carrying, array, derived, block_function, is_made_of, is_identical_to, is_fill, fits_elements, proper, all_proper, proper_fill}
 use Rattle.bqn_rows.specs.Laws.{HasAxes, IsFill, MadeIsWithinLimits}
 use Rattle.bqn_rows.proofs.Proper.{from-whole}
 
@@ -38,8 +38,8 @@ is-within v u w = and_from (is_small v) (is_low v) w.small w.low
 
 -- ---- proper values
 
-kept-proper : (b : Bool) (g : Value) → nat_le (extent g) 128 ≡ b → is_same_as g (prototype g) ≡ true → proper g ≡ true → proper_fill (kept b g) ≡ true
-kept-proper true g e s p = and_from (is_fill g) (proper g) (and_from (is_same_as g (prototype g)) (nat_le (extent g) 128) s e) p
+kept-proper : (b : Bool) (g : Value) → nat_le (extent g) 128 ≡ b → is_identical_to g (prototype g) ≡ true → proper g ≡ true → proper_fill (kept b g) ≡ true
+kept-proper true g e s p = and_from (is_fill g) (proper g) (and_from (is_identical_to g (prototype g)) (nat_le (extent g) 128) s e) p
 kept-proper false g e s p = refl
 
 carrying-proper : (f : Option Value) → IsFill f → proper_fill (carrying f) ≡ true

@@ -2,10 +2,10 @@
 use Rattle.std.proofs.Common.{◌≡◌, ◌+◌, ◌^◌, ℕ, suc, max, Bool, true, false, ◌&&◌, nat_le, List, Option, Some, None, refl, sym, ap, ◌∙◌, subst}
 use Rattle.std.proofs.lemmas.Bool.{and_parts, and_from}
 use Rattle.bqn_rows.specs.Plain.{Value, Number, Character, Array, Values, none, more, Fill, unfilled, filled, count}
-use Rattle.bqn_rows.specs.Relations.{weight, weights, height, heights, extent, same, prototype, prototypes, both, array_of, shared, common_prototype, carried, fill_of}
-use Rattle.bqn_rows.specs.Limits.{is_shape, is_within, is_same_as, is_fill, fits_elements, proper, all_proper, proper_fill}
+use Rattle.bqn_rows.specs.Relations.{weight, weights, height, heights, extent, identical, prototype, prototypes, both, array_of, shared, common_prototype, carried, fill_of}
+use Rattle.bqn_rows.specs.Limits.{is_shape, is_within, is_identical_to, is_fill, fits_elements, proper, all_proper, proper_fill}
 use Rattle.bqn_rows.specs.Laws.{IsFill, PrototypesAreFills}
-use Rattle.bqn_rows.proofs.Matching.{same-itself}
+use Rattle.bqn_rows.proofs.Identity.{identical-itself}
 use Rattle.bqn_rows.proofs.Proper.{whole, from-whole}
 
 -- ---- what a prototype is made of
@@ -138,7 +138,7 @@ mutual
 -- ---- fills
 
 shared-first : (o r : Option Value) (p : Value) → shared o r ≡ Some p → o ≡ Some p
-shared-first (Some v) (Some w) p h = at (same v w) h
+shared-first (Some v) (Some w) p h = at (identical v w) h
   where
     at : (b : Bool) → (elim b as (λ _. Option Value) [ true ↦ Some v | false ↦ None ]) ≡ Some p → Some v ≡ Some p
     at true k = k
@@ -151,15 +151,15 @@ common-first x none p h = h
 common-first x (more y ys) p h = shared-first (prototype x) (common_prototype y ys) p h
 
 prototype-fill : (v p : Value) → proper v ≡ true → prototype v ≡ Some p → IsFill (Some p)
-prototype-fill v p a h = (ap (is_same_as p) (own v p h) ∙ same-itself p, proper-kept v p a h)
+prototype-fill v p a h = (ap (is_identical_to p) (own v p h) ∙ identical-itself p, proper-kept v p a h)
 
 carried-fill : (f : Fill) (p : Value) → proper_fill f ≡ true → carried f ≡ Some p → IsFill (Some p)
 carried-fill unfilled p a h = absurd cc
 carried-fill (filled v) p a h =
     let k = and_parts (is_fill v) (proper v) a in
-    let s = and_parts (is_same_as v (prototype v)) (nat_le (extent v) 128) k.0 in
+    let s = and_parts (is_identical_to v (prototype v)) (nat_le (extent v) 128) k.0 in
     let e = some-value v p h in
-    (subst (λ q. is_same_as q (prototype q) ≡ true) (sym e) s.0, proper-at v p e k.1)
+    (subst (λ q. is_identical_to q (prototype q) ≡ true) (sym e) s.0, proper-at v p e k.1)
 
 fill-kept : (v p : Value) → proper v ≡ true → fill_of v ≡ Some p → IsFill (Some p)
 fill-kept (Array shape none f) p a h = carried-fill f p (whole shape none f a).fill h

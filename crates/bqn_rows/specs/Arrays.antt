@@ -4,7 +4,7 @@ use Rattle.std.specs.Prelude.{ℕ, zero, suc, ◌+◌, ◌-◌, ◌*◌, nat_le,
 use Rattle.std.specs.List.{range_with_len, flat_map, list_all}
 use Rattle.bqn_base.specs.declared.fault.Fault.{Fault}
 use Rattle.bqn_base.specs.declared.fault.Fault.TheVariants.{Rank, Domain, TooLarge, NoFill, Index}
-use Rattle.bqn_rows.specs.Plain.{Value, Number, Array, none, unfilled, values, list}
+use Rattle.bqn_rows.specs.Plain.{Value, Number, Character, Array, none, unfilled, values, list}
 use Rattle.bqn_rows.specs.Relations.{fill_of}
 use Rattle.bqn_rows.specs.Limits.{places, is_shape, array}
 
@@ -35,19 +35,23 @@ cell_count x = first_axis (axes x)
 abbrev pub cell_shape : Value → List ℕ
 cell_shape x = drop 1 (axes x)
 
--- the last m axes of a shape, and those in front of them
-abbrev pub last_axes : (m : ℕ) → List ℕ → List ℕ
-last_axes m shape = drop (length shape - m) shape
+-- the last m axes, which are the shape of a part of rank m, and those in front of them, along which these parts stand
+abbrev pub part_shape : (m : ℕ) → Value → List ℕ
+part_shape m x = drop (rank x - m) (axes x)
 
-abbrev pub frame : (m : ℕ) → List ℕ → List ℕ
-frame m shape = take (length shape - m) shape
+abbrev pub frame : (m : ℕ) → Value → List ℕ
+frame m x = take (rank x - m) (axes x)
+
+-- how many parts of rank m
+abbrev pub part_count : (m : ℕ) → Value → ℕ
+part_count m x = places (frame m x)
 
 -- the parts that the last m axes make, in index order, those of rank 0 as their elements: Match and the order tell them apart in
 -- the same way
 abbrev pub parts : (m : ℕ) → Value → List Value
 parts zero x = elements x
-parts (suc m) x = let shape = last_axes (suc m) (axes x) in let k = places shape in
-    map (λ i. Array shape (values (take k (drop (i * k) (elements x)))) unfilled) (range_with_len 0 (places (frame (suc m) (axes x))))
+parts (suc m) x = let shape = part_shape (suc m) x in let k = places shape in
+    map (λ i. Array shape (values (take k (drop (i * k) (elements x)))) unfilled) (range_with_len 0 (part_count (suc m) x))
 
 -- the cells, as such parts
 abbrev pub cells : Value → List Value
@@ -95,6 +99,9 @@ abbrev pub pairwise : {A B C : Type 0} → (A → B → C) → List A → List B
 pairwise f (x ∷ xs) (y ∷ ys) = f x y ∷ pairwise f xs ys
 pairwise f xs ys = []
 
+abbrev pub sums : List ℕ → List ℕ → List ℕ
+sums = pairwise (λ i j. i + j)
+
 -- ---- answers
 
 abbrev pub natural : ℕ → Value
@@ -107,6 +114,14 @@ list_of xs fill = array (length xs ∷ []) (values xs) fill
 -- numbers in a shape; no numbers have the fill 0
 abbrev pub numbers_in : List ℕ → List ℕ → Result Value Fault
 numbers_in shape ns = array shape (values (map natural ns)) (Some (natural 0))
+
+-- a list of numbers
+abbrev pub list_of_numbers : List ℕ → Result Value Fault
+list_of_numbers ns = numbers_in (length ns ∷ []) ns
+
+-- a list of characters; no characters have the space as fill
+abbrev pub text_value : List ℕ → Result Value Fault
+text_value cs = array (length cs ∷ []) (values (map Character cs)) (Some (Character 32))
 
 -- an array of answers, or the first fault among them; no answer is looked at where the shape is too large
 abbrev pub gathered : List ℕ → List (Result Value Fault) → Option Value → Result Value Fault
@@ -182,9 +197,13 @@ moved_with None xs m = needs (list_all is_inside m.places) NoFill ▹ array m.sh
 abbrev pub moved : Value → Move → Result Value Fault
 moved x m = moved_with (fill_of x) (elements x) m
 
+-- so many places from the first on, in their order
+abbrev pub whole : ℕ → List (Option ℕ)
+whole n = map Some (range_with_len 0 n)
+
 -- all elements, in the order in which they stand, under another shape
 abbrev pub in_place : List ℕ → Move
-in_place shape = record { shape = shape; places = map Some (range_with_len 0 (places shape)) }
+in_place shape = record { shape = shape; places = whole (places shape) }
 
 -- of each place of the answer the index from which it comes
 abbrev pub move_by : (from to : List ℕ) → (List ℕ → List ℕ) → Move
@@ -195,9 +214,6 @@ move_by from to index = record { shape = to; places = map (λ i. Some (place_at 
 -- the cells of an axis in the order in which they stand in the answer; none for a cell of fills
 abbrev pub Along : Type 0
 Along = List (Option ℕ)
-
-abbrev pub whole : ℕ → Along
-whole n = map Some (range_with_len 0 n)
 
 -- where cell i begins, one axis further inside: cells have m elements, and the first begins at a place
 abbrev pub inside : (m : ℕ) → Option ℕ → Option ℕ → Option ℕ

@@ -6,23 +6,27 @@ use Rattle.bqn_base.specs.declared.fault.Fault.{Fault}
 use Rattle.bqn_base.specs.declared.place.Place.{Place}
 use Rattle.bqn_base.specs.Places.{nowhere}
 use Rattle.bqn_rows.specs.Raised.{Raised, unplaced, stamped}
-use Rattle.bqn_rows.specs.Plain.{Maker, Value, Number, Character, Array, Values, none, more, Fill, unfilled, count}
-use Rattle.bqn_rows.specs.Relations.{weight, height, same, prototype, fill_of, matching, ordered, levels, is_level}
-use Rattle.bqn_rows.specs.Limits.{places, size, made, array, derived, block_function, is_made_of, is_same_as, proper, all_proper}
+use Rattle.bqn_rows.specs.Plain.{Maker, Value, Number, Character, Array, Values, none, more, Fill, unfilled, filled, count}
+use Rattle.bqn_rows.specs.Relations.{weight, height, identical, same, prototype, fill_of, matching, ordered, levels, is_level}
+use Rattle.bqn_rows.specs.Limits.{places, size, made, array, derived, block_function, is_made_of, is_identical_to, proper, all_proper}
 
 -- ---- Match
 
 abbrev mutual
-  -- a value of numbers, characters and arrays alone, whatever the fills
+  -- a value of numbers, characters and arrays alone, also in its fills
   pub is_data : Value → Bool
   is_data (Number n) = true
   is_data (Character c) = true
-  is_data (Array shape xs f) = all_data xs
+  is_data (Array shape xs f) = is_data_fill f && all_data xs
   is_data _ = false
 
   pub all_data : Values → Bool
   all_data none = true
   all_data (more x xs) = is_data x && all_data xs
+
+  pub is_data_fill : Fill → Bool
+  is_data_fill unfilled = true
+  is_data_fill (filled v) = is_data v
 
 abbrev mutual
   -- the value without its fills
@@ -34,16 +38,18 @@ abbrev mutual
   all_bare none = none
   all_bare (more x xs) = more (bare x) (all_bare xs)
 
--- Match is equality of data, up to fills, and does not depend on which value is left
-pub record MatchIsEquality : Type 0 where
-  pub same : (w x : Value) → (matching w x ≡ Ok true) ↔ ((is_data w ≡ true) × (bare w ≡ bare x))
-  pub reflexive : (x : Value) → is_data x ≡ true → matching x x ≡ Ok true
+-- values are identical where they are equal, and the same where they are equal without their fills
+pub record IdenticalIsEquality : Type 0 where
+  pub equal : (w x : Value) → (identical w x ≡ true) ↔ (w ≡ x)
+  pub equal_bare : (w x : Value) → (same w x ≡ true) ↔ (bare w ≡ bare x)
+
+-- Match finds two values equal exactly where they are the same and, whatever their fills, data; it does not depend on which is left
+pub record MatchIsSameData : Type 0 where
+  pub exactly : (w x : Value) → (matching w x ≡ Ok true) ↔ ((is_data (bare w) ≡ true) × (same w x ≡ true))
+  pub of_data : (w x : Value) → is_data w ≡ true → (matching w x ≡ Ok true) ↔ (same w x ≡ true)
+  pub reflexive : (x : Value) → is_data (bare x) ≡ true → matching x x ≡ Ok true
   pub symmetric : (w x : Value) → matching w x ≡ matching x w
   pub transitive : (v w x : Value) → matching v w ≡ Ok true → matching w x ≡ Ok true → matching v x ≡ Ok true
-
--- the test for the same fill is equality of values
-pub record SameIsEquality : Type 0 where
-  pub equal : (w x : Value) → (same w x ≡ true) ↔ (w ≡ x)
 
 -- ---- the order
 
@@ -73,7 +79,7 @@ HasAxes _ = Unit {0}
 
 abbrev pub IsFill : Option Value → Type 0
 IsFill None = Unit {0}
-IsFill (Some v) = (is_same_as v (prototype v) ≡ true) × (proper v ≡ true)
+IsFill (Some v) = (is_identical_to v (prototype v) ≡ true) × (proper v ≡ true)
 
 -- what is made is what was to be made, and keeps the limits; made of proper parts it is proper
 pub record MadeIsWithinLimits : Type 0 where

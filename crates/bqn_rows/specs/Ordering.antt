@@ -5,7 +5,7 @@ use Rattle.bqn_base.specs.declared.fault.Fault.{Fault}
 use Rattle.bqn_base.specs.declared.fault.Fault.TheVariants.{Rank, Domain, NoOrder}
 use Rattle.bqn_rows.specs.Plain.{Value, values}
 use Rattle.bqn_rows.specs.Relations.{Levels, no_level, all_levels, before}
-use Rattle.bqn_rows.specs.Arrays.{axes, rank, cell_count, frame, parts, cells, has_cells, needs, and_then, ◌▹◌, natural, numbers_in, moved, move_cells}
+use Rattle.bqn_rows.specs.Arrays.{axes, rank, cell_count, frame, parts, cells, has_cells, needs, and_then, ◌▹◌, natural, numbers_in, list_of_numbers, moved, move_cells}
 
 -- which of two values stands first: the lesser, or the greater
 abbrev pub Ahead : Type 0
@@ -19,7 +19,7 @@ falling w x = before x w
 
 abbrev pub is_any : Levels → Bool
 is_any no_level = false
-is_any levels = true
+is_any _ = true
 
 -- the values have a common level
 abbrev pub are_ordered : List Value → Bool
@@ -48,7 +48,7 @@ graded ahead x =
     Ok (in_order (ahead_at ahead (cells x)) (range_with_len 0 (cell_count x)))
 
 abbrev pub grade : Ahead → Value → Result Value Fault
-grade ahead x = and_then (graded ahead x) (λ is. numbers_in (length is ∷ []) is)
+grade ahead x = and_then (graded ahead x) list_of_numbers
 
 -- `⍋x`, `⍒x`: x has cells of one level; their numbers in rising, in falling order, equal cells as they come
 abbrev pub grade_up_row : Value → Result Value Fault
@@ -82,7 +82,7 @@ bins ahead w x = let m = rank w - 1 in
     needs (nat_le m (rank x)) Rank ▹
     needs (are_ordered (cells w ++ parts m x)) NoOrder ▹
     needs (are_in_order ahead (cells w)) Domain ▹
-    numbers_in (frame m (axes x)) (map (λ p. count_by (λ c. not (ahead p c)) (cells w)) (parts m x))
+    numbers_in (frame m x) (map (λ p. count_by (λ c. not (ahead p c)) (cells w)) (parts m x))
 
 -- `w⍋x`, `w⍒x`: for each part of x how many cells of a rising w are not after it, of a falling w not before it
 abbrev pub bins_up_row : Value → Value → Result Value Fault

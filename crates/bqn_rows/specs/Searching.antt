@@ -9,7 +9,8 @@ use Rattle.bqn_rows.specs.Plain.{Value, Number, Array, none, values}
 use Rattle.bqn_rows.specs.Relations.{fill_of, matching, all_matching}
 use Rattle.bqn_rows.specs.Limits.{carrying}
 use Rattle.bqn_rows.specs.Atoms.{as_truth}
-use Rattle.bqn_rows.specs.Arrays.{axes, elements, rank, cell_count, cell_shape, frame, parts, cells, has_cells, holds_atoms, needs, and_then, ◌▹◌, all_ok, pairwise, natural, numbers_in, gathered, indices, place_at, moved, move_cells}
+use Rattle.bqn_rows.specs.Structure.{fits_often}
+use Rattle.bqn_rows.specs.Arrays.{axes, elements, rank, cell_count, cell_shape, frame, parts, cells, has_cells, holds_atoms, needs, and_then, ◌▹◌, all_ok, pairwise, sums, natural, numbers_in, list_of_numbers, gathered, indices, place_at, moved, move_cells}
 
 abbrev pub one_if : Bool → ℕ
 one_if true = 1
@@ -53,20 +54,17 @@ abbrev pub classes : (known cells : List Value) → Result (List ℕ) Fault
 classes known [] = Ok []
 classes known (x ∷ xs) = and_then (first_of_all known x) (λ k. and_then (classes (with_new known k x) xs) (λ ks. Ok (k ∷ ks)))
 
-abbrev pub one_per_cell : Result (List ℕ) Fault → Result Value Fault
-one_per_cell row = and_then row (λ ks. numbers_in (length ks ∷ []) ks)
-
 -- `⊐x`: for each cell its number among the distinct cells, as they first come
 abbrev pub classify_row : Value → Result Value Fault
-classify_row x = needs (has_cells x) Rank ▹ one_per_cell (classes [] (cells x))
+classify_row x = needs (has_cells x) Rank ▹ and_then (classes [] (cells x)) list_of_numbers
 
 -- `⊒x`: for each cell how many earlier ones match it
 abbrev pub occurrence_row : Value → Result Value Fault
-occurrence_row x = one_per_cell (repeats x)
+occurrence_row x = and_then (repeats x) list_of_numbers
 
 -- `∊x`: for each cell 1 if no earlier one matches it
 abbrev pub mark_firsts_row : Value → Result Value Fault
-mark_firsts_row x = and_then (repeats x) (λ ks. numbers_in (length ks ∷ []) (map (λ k. one_if (nat_eq k 0)) ks))
+mark_firsts_row x = and_then (repeats x) (λ ks. list_of_numbers (map (λ k. one_if (nat_eq k 0)) ks))
 
 -- `⍷x`: the cells that no earlier one matches
 abbrev pub deduplicate_row : Value → Result Value Fault
@@ -79,7 +77,7 @@ abbrev pub looked_up : (of within : Value) → ((cells parts : List Value) → R
 looked_up of within row = let m = rank of - 1 in
     needs (has_cells of) Rank ▹
     needs (nat_le m (rank within)) Rank ▹
-    and_then (row (cells of) (parts m within)) (λ ks. numbers_in (frame m (axes within)) ks)
+    and_then (row (cells of) (parts m within)) (λ ks. numbers_in (frame m within) ks)
 
 abbrev pub first_matches : (cells parts : List Value) → Result (List ℕ) Fault
 first_matches cells parts = all_ok (map (first_of_all cells) parts)
@@ -104,9 +102,6 @@ member_row w x = looked_up x w (λ cells parts. and_then (first_matches cells pa
 
 -- ---- find
 
-abbrev pub sums : List ℕ → List ℕ → List ℕ
-sums is js = pairwise (λ i j. i + j) is js
-
 -- the elements of x in a shape, from an index on
 abbrev pub window : Value → (shape index : List ℕ) → List Value
 window x shape index = map (λ i. get_or (elements x) (place_at (axes x) (sums index i)) (natural 0)) (indices shape)
@@ -115,7 +110,7 @@ window x shape index = map (λ i. get_or (elements x) (place_at (axes x) (sums i
 abbrev pub find_row : Value → Value → Result Value Fault
 find_row w x =
     needs (nat_eq (rank w) (rank x)) LeftOut ▹
-    let shape = pairwise (λ k n. (1 + n) - k) (axes w) (axes x) in
+    let shape = pairwise fits_often (axes w) (axes x) in
     gathered shape (map (λ at. as_truth (all_matching (values (elements w)) (values (window x (axes w) at)))) (indices shape)) (Some (natural 0))
 
 -- ---- groups
@@ -155,7 +150,7 @@ no_cells cell fill = Array (0 ∷ cell) none (carrying fill)
 abbrev pub group_indices_row : Value → Result Value Fault
 group_indices_row x =
     needs (nat_eq (rank x) 1) Rank ▹
-    and_then (as_groups x) (λ groups. grouped groups (λ is. numbers_in (length is ∷ []) is) (no_cells [] (Some (natural 0))))
+    and_then (as_groups x) (λ groups. grouped groups list_of_numbers (no_cells [] (Some (natural 0))))
 
 -- `w⊔x`: x has cells, and w is a list of numbers of at least ¯1, as long as x (own); for each group the cells of x at which it stands in w
 abbrev pub group_row : Value → Value → Result Value Fault

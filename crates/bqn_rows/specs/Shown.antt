@@ -92,8 +92,13 @@ abbrev pub code_of : Value → List ℕ
 code_of (Character c) = c ∷ []
 code_of x = []
 
+-- a list of characters, or an empty list
+abbrev pub is_text : Value → Bool
+is_text (Array (n ∷ []) xs f) = are_characters xs
+is_text x = false
+
 -- a list of characters, or an empty one, as it is; a character as itself; else the text
 abbrev pub formatted : Value → List ℕ
-formatted (Array (n ∷ []) xs f) = cond (are_characters xs) (flat_map code_of (list xs)) (shown (Array (n ∷ []) xs f))
+formatted (Array shape xs f) = cond (is_text (Array shape xs f)) (flat_map code_of (list xs)) (shown (Array shape xs f))
 formatted (Character c) = c ∷ []
 formatted x = shown x

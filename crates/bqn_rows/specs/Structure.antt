@@ -9,7 +9,7 @@ use Rattle.bqn_rows.specs.Relations.{depth, fill_of, matching, same_shape, share
 use Rattle.bqn_rows.specs.Limits.{places, is_shape, array}
 use Rattle.bqn_rows.specs.Atoms.{as_truth, denied}
 use Rattle.bqn_rows.specs.Shown.{formatted}
-use Rattle.bqn_rows.specs.Arrays.{axes, elements, rank, cell_count, cell_shape, last_axes, frame, is_array, has_elements, has_cells, is_flat, needs, and_then, ◌▹◌, pairwise, natural, list_of, numbers_in, gathered, number_list, natural_list, naturals, indices, Move, moved, in_place, move_by, Along, whole, along_axes, move_along, move_cells}
+use Rattle.bqn_rows.specs.Arrays.{axes, elements, rank, cell_count, cell_shape, part_shape, part_count, is_array, has_elements, has_cells, is_flat, needs, and_then, ◌▹◌, pairwise, sums, natural, list_of, numbers_in, list_of_numbers, gathered, number_list, natural_list, naturals, indices, Move, moved, in_place, move_by, Along, whole, along_axes, move_along, move_cells}
 
 -- `=x`, `≠x`: how many axes; the first axis, or 1 without axes
 abbrev pub rank_row : Value → Result Value Fault
@@ -70,13 +70,6 @@ join_row x =
     needs (nat_eq (rank x) 1) LeftOut ▹
     needs (list_all is_flat (elements x)) LeftOut ▹
     list_of (flat_map elements (elements x)) (fill_of_joined (fill_of x) (elements x))
-
--- how many parts of rank m
-abbrev pub part_count : (m : ℕ) → Value → ℕ
-part_count m x = places (frame m (axes x))
-
-abbrev pub part_shape : (m : ℕ) → Value → List ℕ
-part_shape m x = last_axes m (axes x)
 
 -- the elements of w and then those of x, in this shape; no elements have the fill of both
 abbrev pub both_in : List ℕ → Value → Value → Result Value Fault
@@ -172,12 +165,9 @@ suffixes_row x = for_each_length drop_by x
 
 -- ---- ranges and windows
 
-abbrev pub index_value : List ℕ → Result Value Fault
-index_value index = numbers_in (length index ∷ []) index
-
 -- the array of all indices of a shape; no indices have as many zeros as fill
 abbrev pub range_of : List ℕ → Result Value Fault
-range_of shape = and_then (index_value (replicate (length shape) 0)) (λ zeros. gathered shape (map index_value (indices shape)) (Some zeros))
+range_of shape = and_then (list_of_numbers (replicate (length shape) 0)) (λ zeros. gathered shape (map list_of_numbers (indices shape)) (Some zeros))
 
 -- `↕x`: x is a list of naturals; a number gives those below it, a list of one axis the array of all indices in this shape
 abbrev pub range_for : (rank : ℕ) → List ℕ → Result Value Fault
@@ -189,9 +179,9 @@ range_row x = and_then (natural_list x) (λ ns. range_for (rank x) ns)
 
 -- at index a, b, c stands what is at a + b, c
 abbrev pub window_index : (many : ℕ) → List ℕ → List ℕ
-window_index many i = pairwise (λ a b. a + b) (take many i) (take many (drop many i)) ++ drop (many + many) i
+window_index many i = sums (take many i) (take many (drop many i)) ++ drop (many + many) i
 
--- how often a window of w cells fits on an axis of n
+-- how often a window of w cells fits on an axis of n; not at all, if it is too long
 abbrev pub fits_often : (w n : ℕ) → ℕ
 fits_often w n = (1 + n) - w
 

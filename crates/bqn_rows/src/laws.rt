@@ -1,18 +1,18 @@
 //! What holds of the definitions themselves: nothing runs here.
 
-ghost use Rattle.bqn_rows.specs.Laws.{MatchIsEquality, SameIsEquality, OrderIsTotal, LevelsAreOfElements, MadeIsWithinLimits, PrototypesAreFills, PlacesStay};
+ghost use Rattle.bqn_rows.specs.Laws.{IdenticalIsEquality, MatchIsSameData, OrderIsTotal, LevelsAreOfElements, MadeIsWithinLimits, PrototypesAreFills, PlacesStay};
 ghost use Rattle.bqn_rows.specs.Questions.{QuestionsAreOfTheCall};
 
-/// Match is equality of data up to fills: reflexive there, symmetric and transitive.
-#[tactic(auto, using(crate::proofs::Matching::matching_laws))]
-pub fn match_is_equality()
-    ensures { MatchIsEquality }
+/// Values are identical where they are equal, and the same where they are equal without their fills.
+#[tactic(auto, using(crate::proofs::Identity::identity_laws))]
+pub fn identical_is_equality()
+    ensures { IdenticalIsEquality }
 {}
 
-/// The test that a fill is the same is equality of values.
+/// Match finds two values equal where they are the same data; it is reflexive there, symmetric and transitive.
 #[tactic(auto, using(crate::proofs::Matching::matching_laws))]
-pub fn same_is_equality()
-    ensures { SameIsEquality }
+pub fn match_is_same_data()
+    ensures { MatchIsSameData }
 {}
 
 /// The order is total; of values with a level it tells apart exactly those that do not match.
