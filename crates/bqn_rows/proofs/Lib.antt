@@ -6,6 +6,8 @@ pub mod Levels
 pub mod Proper
 pub mod Prototypes
 pub mod Making
+pub mod Rows
+pub mod Following
 pub mod Questioning
 pub mod Stamping
 mod ValueSamples

@@ -5,7 +5,7 @@ use Rattle.bqn_rows.specs.Plain.{Maker, Value, Array, Derived, Function, Values,
 use Rattle.bqn_rows.specs.Relations.{weight, height, extent, prototype}
 use Rattle.bqn_rows.specs.Limits.{places, size, is_shape, is_small, is_low, is_within, if_within, made, kept, carrying, array, derived, block_function, is_made_of, is_identical_to, is_fill, fits_elements, proper, all_proper, proper_fill}
 use Rattle.bqn_rows.specs.Laws.{HasAxes, IsFill, MadeIsWithinLimits}
-use Rattle.bqn_rows.proofs.Proper.{from-whole}
+use Rattle.bqn_rows.proofs.Proper.{from-whole, small-weighs, small-axes}
 
 -- ---- limits
 
@@ -21,17 +21,6 @@ within-by false low v u s l h = absurd cc
 
 within : (v u : Value) → made v ≡ Ok u → Within v u
 within v u h = within-by (is_small v) (is_low v) v u refl refl h
-
-small-weighs : (v : Value) → is_small v ≡ true → weight v ≤ 2 ^ 22
-small-weighs (Array shape xs f) h = leb-true (weight (Array shape xs f)) (2 ^ 22) (and_parts (is_shape shape) (nat_le (weight (Array shape xs f)) (2 ^ 22)) h).1
-small-weighs v h = leb-true (weight v) (2 ^ 22) h
-
-small-axes : (v : Value) → is_small v ≡ true → HasAxes v
-small-axes (Array shape xs f) h =
-    let p = and_parts (is_shape shape) (nat_le (weight (Array shape xs f)) (2 ^ 22)) h in
-    let q = and_parts (nat_le (length shape) 16) (nat_le (size shape) (2 ^ 22)) p.0 in
-    (leb-true (length shape) 16 q.0, leb-true (size shape) (2 ^ 22) q.1)
-small-axes v h = tt
 
 is-within : (v u : Value) → Within v u → is_within v ≡ true
 is-within v u w = and_from (is_small v) (is_low v) w.small w.low

@@ -6,9 +6,10 @@ use Rattle.bqn_base.specs.declared.fault.Fault.{Fault}
 use Rattle.bqn_base.specs.declared.place.Place.{Place}
 use Rattle.bqn_base.specs.Places.{nowhere}
 use Rattle.bqn_rows.specs.Raised.{Raised, unplaced, stamped}
-use Rattle.bqn_rows.specs.Plain.{Maker, Value, Number, Character, Array, Values, none, more, Fill, unfilled, filled, count}
-use Rattle.bqn_rows.specs.Relations.{weight, height, identical, same, prototype, fill_of, matching, ordered, levels, is_level}
-use Rattle.bqn_rows.specs.Limits.{places, size, made, array, derived, block_function, is_made_of, is_identical_to, proper, all_proper}
+use Rattle.bqn_rows.specs.Plain.{Maker, Value, Number, Character, Array, Values, none, more, Fill, unfilled, filled, values, list, fill, count}
+use Rattle.bqn_rows.specs.Relations.{weight, height, extent, identical, same, prototype, carried, fill_of, matching, ordered, levels, is_level}
+use Rattle.bqn_rows.specs.Limits.{places, size, is_within, made, array, derived, block_function, is_made_of, is_identical_to, fits_elements, proper, all_proper, proper_fill}
+use Rattle.bqn_rows.specs.Pervasion.{Row1, Row2, goes_in, fill_in, into_array, goes_into, fill_into, into_arrays, fill_depth}
 
 -- ---- Match
 
@@ -91,6 +92,27 @@ pub record MadeIsWithinLimits : Type 0 where
   pub proper_derived : (maker : Maker) (parts : Values) (v : Value) → is_made_of maker parts ≡ true → all_proper parts ≡ true → derived maker parts ≡ Ok v → proper v ≡ true
   pub proper_function : (block environment : ℕ) (operands : Values) (v : Value) → count operands ≤ 2 → all_proper operands ≡ true → block_function block environment operands ≡ Ok v → proper v ≡ true
 
+-- what an array is proper by
+pub record ProperArray (shape : List ℕ) (xs : Values) (f : Fill) : Type 0 where
+  pub within : is_within (Array shape xs f) ≡ true
+  pub counted : places shape ≡ count xs
+  pub parts : all_proper xs ≡ true
+  pub fits : fits_elements xs f ≡ true
+  pub fill : proper_fill f ≡ true
+
+-- an array is proper where its parts are; what it carries may be carried
+pub record ProperByParts : Type 0 where
+  pub parts : (shape : List ℕ) (xs : Values) (f : Fill) → proper (Array shape xs f) ≡ true → ProperArray shape xs f
+  pub whole : (shape : List ℕ) (xs : Values) (f : Fill) → ProperArray shape xs f → proper (Array shape xs f) ≡ true
+  pub fill : (shape : List ℕ) (xs : Values) (f : Fill) → proper (Array shape xs f) ≡ true → IsFill (carried f)
+
+-- proper values keep the limits; fills within fills nest at most 256 deep
+pub record ProperIsWithinLimits : Type 0 where
+  pub weighs : (v : Value) → proper v ≡ true → weight v ≤ 2 ^ 22
+  pub low : (v : Value) → proper v ≡ true → height v ≤ 128
+  pub axes : (v : Value) → proper v ≡ true → HasAxes v
+  pub nests : (v : Value) → proper v ≡ true → extent v ≤ 256
+
 -- a prototype is its own prototype, as large as the value, and proper where the value is; so the fill of a proper value may be carried
 pub record PrototypesAreFills : Type 0 where
   pub own : (v p : Value) → prototype v ≡ Some p → prototype p ≡ Some p
@@ -98,6 +120,23 @@ pub record PrototypesAreFills : Type 0 where
   pub height_kept : (v p : Value) → prototype v ≡ Some p → height p ≡ height v
   pub proper_kept : (v p : Value) → proper v ≡ true → prototype v ≡ Some p → proper p ≡ true
   pub fill : (v p : Value) → proper v ≡ true → fill_of v ≡ Some p → IsFill (Some p)
+
+-- ---- rows of values
+
+-- rows are lists, and fills are options
+pub record RowsAreLists : Type 0 where
+  pub list_of_row : (xs : List Value) → list (values xs) ≡ xs
+  pub row_of_list : (xs : Values) → values (list xs) ≡ xs
+  pub counted : (xs : List Value) → count (values xs) ≡ length xs
+  pub carried_fill : (f : Option Value) → carried (fill f) ≡ f
+  pub fill_carried : (f : Fill) → fill (carried f) ≡ f
+
+-- ---- arithmetic
+
+-- of proper arguments a row's answer is the same, however much deeper the fills of fills are followed
+pub record FillsAreFollowed : Type 0 where
+  pub alone : (row : Row1) (n : ℕ) (x : Value) → fill_depth ≤ n → proper x ≡ true → goes_in row (fill_in row n) x ≡ into_array row x
+  pub two : (row : Row2) (n : ℕ) (w x : Value) → fill_depth ≤ n → proper w ≡ true → proper x ≡ true → goes_into row (fill_into row n) w x ≡ into_arrays row w x
 
 -- ---- places
 

@@ -40,10 +40,13 @@ abbrev pub fill_in : Row1 → ℕ → Value → Option Value
 fill_in row zero x = None
 fill_in row (suc n) x = of_fill (goes_in row (fill_in row n)) (fill_of x)
 
--- a row on atoms, which goes into arrays; an array is at most 128 high and the fills in it have an extent of at most 128, so that 256 is
--- never too few
+-- how deep: an array is at most 128 high and the fills in it have an extent of at most 128, so that any greater depth gives the same
+abbrev pub fill_depth : ℕ
+fill_depth = 256
+
+-- a row on atoms, which goes into arrays
 abbrev pub into_array : Row1 → Value → Result Value Fault
-into_array row = goes_in row (fill_in row 256)
+into_array row = goes_in row (fill_in row fill_depth)
 
 -- ---- two arguments: one shape is the front of the other, else Length; each element meets the part of the other argument at the front of
 -- its index; parts are taken in index order, and the first fault is the row's
@@ -92,4 +95,4 @@ fill_into row (suc n) w x = of_fills (goes_into row (fill_into row n)) (fill_of 
 
 -- a row on two atoms, which goes into arrays
 abbrev pub into_arrays : Row2 → Value → Value → Result Value Fault
-into_arrays row = goes_into row (fill_into row 256)
+into_arrays row = goes_into row (fill_into row fill_depth)

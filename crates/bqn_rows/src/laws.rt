@@ -1,6 +1,6 @@
 //! What holds of the definitions themselves: nothing runs here.
 
-ghost use Rattle.bqn_rows.specs.Laws.{IdenticalIsEquality, MatchIsSameData, OrderIsTotal, LevelsAreOfElements, MadeIsWithinLimits, PrototypesAreFills, PlacesStay};
+ghost use Rattle.bqn_rows.specs.Laws.{IdenticalIsEquality, MatchIsSameData, OrderIsTotal, LevelsAreOfElements, MadeIsWithinLimits, ProperByParts, ProperIsWithinLimits, PrototypesAreFills, RowsAreLists, FillsAreFollowed, PlacesStay};
 ghost use Rattle.bqn_rows.specs.Questions.{QuestionsAreOfTheCall};
 
 /// Values are identical where they are equal, and the same where they are equal without their fills.
@@ -31,6 +31,30 @@ pub fn levels_are_of_elements()
 #[tactic(auto, using(crate::proofs::Making::making_laws))]
 pub fn made_is_within_limits()
     ensures { MadeIsWithinLimits }
+{}
+
+/// An array is proper where its parts are, and what it carries may be carried.
+#[tactic(auto, using(crate::proofs::Proper::proper_laws))]
+pub fn proper_by_parts()
+    ensures { ProperByParts }
+{}
+
+/// Proper values keep the limits.
+#[tactic(auto, using(crate::proofs::Proper::proper_laws))]
+pub fn proper_is_within_limits()
+    ensures { ProperIsWithinLimits }
+{}
+
+/// Rows of values are lists, and fills are options.
+#[tactic(auto, using(crate::proofs::Rows::row_laws))]
+pub fn rows_are_lists()
+    ensures { RowsAreLists }
+{}
+
+/// The fills of fills are followed deep enough in the rows of arithmetic.
+#[tactic(auto, using(crate::proofs::Following::fill_laws))]
+pub fn fills_are_followed()
+    ensures { FillsAreFollowed }
 {}
 
 /// A prototype is its own prototype and as large as the value; it and the fill of a proper value may be carried.
