@@ -1,13 +1,12 @@
 -- The fills of fills are followed deep enough.
-use Rattle.std.proofs.Common.{◌≡◌, ◌≤◌, ◌-◌, ◌/◌, ℕ, zero, suc, max, List, [], ◌∷◌, map, get_or, Option, Some, None, Result, Ok, Err, refl, ap, arith}
+use Rattle.std.proofs.Common.{◌≡◌, ◌≤◌, ◌-◌, ◌/◌, ℕ, zero, suc, max, ◌∷◌, map, get_or, Option, Some, None, Err, refl, ap, arith}
 use Rattle.std.specs.List.{range_with_len}
-use Rattle.bqn_base.specs.declared.fault.Fault.{Fault}
 use Rattle.bqn_base.specs.declared.fault.Fault.TheVariants.{Domain}
-use Rattle.bqn_rows.specs.Plain.{Value, Number, Character, Array, Values, none, more, Fill, unfilled, filled, values, list}
-use Rattle.bqn_rows.specs.Relations.{extent, extents, fill_extent, prototype, common_prototype, carried, fill_of}
-use Rattle.bqn_rows.specs.Limits.{places, array, proper}
+use Rattle.bqn_rows.specs.Plain.{Value, Array, Values, none, more, Fill, unfilled, filled, values, list}
+use Rattle.bqn_rows.specs.Relations.{extent, extents, fill_extent, carried, fill_of}
+use Rattle.bqn_rows.specs.Limits.{places, array}
 use Rattle.bqn_rows.specs.Arrays.{and_then, all_ok, axes, elements, natural}
-use Rattle.bqn_rows.specs.Pervasion.{Row1, Row2, prototype_of, goes_in, each_in, of_fill, fill_in, into_array, Agreed, agreed, where_agreed, met, goes_into, rows_of, of_fills, fill_into, into_arrays, fill_depth}
+use Rattle.bqn_rows.specs.Pervasion.{Row1, Row2, prototype_of, goes_in, each_in, of_fill, fill_in, agreed, where_agreed, goes_into, rows_of, of_fills, fill_into, fill_depth}
 use Rattle.bqn_rows.specs.Laws.{FillsAreFollowed}
 use Rattle.bqn_rows.proofs.Prototypes.{common-first, prototype-nests}
 use Rattle.bqn_rows.proofs.Proper.{proper_is_within_limits}

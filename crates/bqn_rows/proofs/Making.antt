@@ -1,9 +1,9 @@
 -- What is made keeps the limits, and is proper where its parts are.
-use Rattle.std.proofs.Common.{◌≡◌, ◌≤◌, ◌^◌, ℕ, Bool, true, false, ◌&&◌, nat_le, List, length, Option, Some, None, Ok, refl, sym, subst, leb-true, le-leb}
-use Rattle.std.proofs.lemmas.Bool.{and_parts, and_from}
+use Rattle.std.proofs.Common.{◌≡◌, ◌≤◌, ◌^◌, ℕ, Bool, true, false, ◌&&◌, nat_le, List, Option, Some, None, Ok, refl, sym, subst, leb-true, le-leb}
+use Rattle.std.proofs.lemmas.Bool.{and_from}
 use Rattle.bqn_rows.specs.Plain.{Maker, Value, Array, Derived, Function, Values, none, more, Fill, unfilled, count}
 use Rattle.bqn_rows.specs.Relations.{weight, height, extent, prototype}
-use Rattle.bqn_rows.specs.Limits.{places, size, is_shape, is_small, is_low, is_within, if_within, made, kept, carrying, array, derived, block_function, is_made_of, is_identical_to, is_fill, fits_elements, proper, all_proper, proper_fill}
+use Rattle.bqn_rows.specs.Limits.{places, is_small, is_low, is_within, if_within, made, kept, carrying, array, derived, block_function, is_made_of, is_identical_to, is_fill, fits_elements, proper, all_proper, proper_fill}
 use Rattle.bqn_rows.specs.Laws.{HasAxes, IsFill, MadeIsWithinLimits}
 use Rattle.bqn_rows.proofs.Proper.{from-whole, small-weighs, small-axes}
 

@@ -1,11 +1,11 @@
 -- Match finds two values equal where they are the same data.
-use Rattle.std.proofs.Common.{◌≡◌, ℕ, Bool, true, false, ◌&&◌, nat_eq, ℤ, pos, List, [], ◌∷◌, Result, Ok, Err, refl, ap, ◌∙◌, subst, eqb-true, eq-eqb}
+use Rattle.std.proofs.Common.{◌≡◌, Bool, true, false, nat_eq, Result, Ok, Err, refl, ap, ◌∙◌, subst, eqb-true, eq-eqb}
 use Rattle.std.specs.Cmp.{signed_Decides, int_eq_equiv, nat_eq_equiv}
 use Rattle.std.specs.Ordering.{int_eq}
 use Rattle.std.proofs.lemmas.Bool.{and_parts, and_from}
 use Rattle.bqn_base.specs.declared.fault.Fault.{Fault}
 use Rattle.bqn_base.specs.declared.fault.Fault.TheVariants.{NoCompare}
-use Rattle.bqn_rows.specs.Plain.{Maker, One, Two, Atop, Fork, Value, Number, Character, Array, Given, Derived, Function, Modifier1, Modifier2, Namespace, Values, none, more, Fill, unfilled, filled, kind, kind_number}
+use Rattle.bqn_rows.specs.Plain.{Value, Number, Character, Array, Given, Derived, Function, Modifier1, Modifier2, Namespace, Values, none, more, unfilled, kind, kind_number}
 use Rattle.bqn_rows.specs.Relations.{same_shape, same, first_unequal, where_alike, matching, all_matching}
 use Rattle.bqn_rows.specs.Laws.{is_data, all_data, is_data_fill, bare, all_bare, MatchIsSameData}
 use Rattle.bqn_rows.proofs.Identity.{shape-equal, shape-itself, shape-symmetric, shape_in, elements_in, head_of, rest_of, same-bare, bare-same}

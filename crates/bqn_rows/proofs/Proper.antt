@@ -1,7 +1,7 @@
 -- What a value is proper by, and the limits that it then keeps.
 use Rattle.std.proofs.Common.{◌≡◌, ◌≤◌, ◌+◌, ◌^◌, ℕ, true, ◌&&◌, nat_le, nat_eq, List, length, eqb-true, eq-eqb, leb-true, arith}
 use Rattle.std.proofs.lemmas.Bool.{and_parts, and_from}
-use Rattle.bqn_rows.specs.Plain.{Value, Number, Character, Array, Given, Derived, Function, Modifier1, Modifier2, Namespace, Values, none, more, Fill, unfilled, filled, count}
+use Rattle.bqn_rows.specs.Plain.{Value, Array, Derived, Function, Values, none, more, Fill, unfilled, filled, count}
 use Rattle.bqn_rows.specs.Relations.{weight, height, heights, extent, extents, fill_extent, prototype, carried}
 use Rattle.bqn_rows.specs.Limits.{places, size, is_shape, is_small, is_low, is_within, is_made_of, is_identical_to, is_fill, fits_elements, proper, all_proper, proper_fill}
 use Rattle.bqn_rows.specs.Laws.{HasAxes, IsFill, ProperArray, ProperByParts, ProperIsWithinLimits}

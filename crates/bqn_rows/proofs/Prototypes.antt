@@ -1,9 +1,9 @@
 -- Prototypes are their own, as large as the value, and proper where the value is; fills too.
 use Rattle.std.proofs.Common.{◌≡◌, ◌≤◌, ◌+◌, ◌^◌, ℕ, pos, arith, suc, max, Bool, true, false, ◌&&◌, nat_le, List, Option, Some, None, refl, sym, ap, ◌∙◌, subst}
 use Rattle.std.proofs.lemmas.Bool.{and_parts, and_from}
-use Rattle.bqn_rows.specs.Plain.{Value, Number, Character, Array, Values, none, more, Fill, unfilled, filled, count}
-use Rattle.bqn_rows.specs.Relations.{weight, weights, height, heights, extent, extents, identical, prototype, prototypes, both, array_of, shared, common_prototype, carried, fill_of}
-use Rattle.bqn_rows.specs.Limits.{is_shape, is_within, is_identical_to, is_fill, fits_elements, proper, all_proper, proper_fill}
+use Rattle.bqn_rows.specs.Plain.{Value, Number, Character, Array, Values, none, more, Fill, unfilled, count}
+use Rattle.bqn_rows.specs.Relations.{weight, weights, height, heights, extent, extents, identical, prototype, prototypes, both, array_of, shared, common_prototype, fill_of}
+use Rattle.bqn_rows.specs.Limits.{is_shape, is_within, is_identical_to, fits_elements, proper, all_proper}
 use Rattle.bqn_rows.specs.Laws.{IsFill, PrototypesAreFills}
 use Rattle.bqn_rows.proofs.Identity.{identical-itself}
 use Rattle.bqn_rows.proofs.Proper.{whole, from-whole, may-carry}

@@ -1,4 +1,5 @@
 pub mod Plain
+pub mod Stored
 pub mod Relations
 pub mod Limits
 pub mod Atoms

@@ -1,5 +1,5 @@
 -- The rows of order: BQN's pages on ordered functions. NoOrder is this project's own. Each comment tells its row; conditions come in their order.
-use Rattle.std.specs.Prelude.{ℕ, ◌-◌, nat_le, Bool, true, false, not, cond, ◌&&◌, List, [], ◌∷◌, ◌++◌, length, map, get_or, count_by, Result, Ok}
+use Rattle.std.specs.Prelude.{ℕ, ◌-◌, nat_le, Bool, true, false, not, cond, ◌&&◌, List, [], ◌∷◌, ◌++◌, map, get_or, count_by, Result, Ok}
 use Rattle.std.specs.List.{range_with_len}
 use Rattle.bqn_base.specs.declared.fault.Fault.{Fault}
 use Rattle.bqn_base.specs.declared.fault.Fault.TheVariants.{Rank, Domain, NoOrder}
