@@ -12,4 +12,10 @@ pub mod Questioning
 pub mod Stamping
 mod ValueSamples
 mod CallSamples
-mod RowSamples
+mod SampleTerms
+mod ArithmeticSamples
+mod StructureSamples
+mod MovingSamples
+mod SelectionSamples
+mod OrderingSamples
+mod SearchingSamples
