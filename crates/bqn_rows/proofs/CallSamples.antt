@@ -349,13 +349,16 @@ block_without_room : next (Function 1 0 none) (Some (n 1)) (n 5) 0 [] ≡ Outcom
 block_without_room = refl
 
 -- a train of two blocks asks for the right one, then for the left one on its answer
-first_question : next (Derived Atop (more (Function 1 0 none) (more (Function 2 0 none) none))) (Some (n 1)) (n 5) 1000 [] ≡ Asks (Enter 2 0 none (two (n 1) (n 5)) 998)
+first_question : next (Derived Atop (more (Function 1 0 none) (more (Function 2 0 none) none))) (Some (n 1)) (n 5) 1000 []
+    ≡ Asks (Enter 2 0 none (two (n 1) (n 5)) 998)
 first_question = refl
 
-second_question : next (Derived Atop (more (Function 1 0 none) (more (Function 2 0 none) none))) (Some (n 1)) (n 5) 1000 (Ok (n 7) ∷ []) ≡ Asks (Enter 1 0 none (alone (n 7)) 998)
+second_question : next (Derived Atop (more (Function 1 0 none) (more (Function 2 0 none) none))) (Some (n 1)) (n 5) 1000 (Ok (n 7) ∷ [])
+    ≡ Asks (Enter 1 0 none (alone (n 7)) 998)
 second_question = refl
 
-fault_as_reply : next (Derived Atop (more (Function 1 0 none) (more (Function 2 0 none) none))) (Some (n 1)) (n 5) 1000 (Err (unplaced NoBody) ∷ []) ≡ Outcome (Err (unplaced NoBody))
+fault_as_reply : next (Derived Atop (more (Function 1 0 none) (more (Function 2 0 none) none))) (Some (n 1)) (n 5) 1000 (Err (unplaced NoBody) ∷ [])
+    ≡ Outcome (Err (unplaced NoBody))
 fault_as_reply = refl
 
 show_writes : next (Given 65) None (m 20) 0 [] ≡ Asks (Write (codes "¯21" ++ 10 ∷ []))

@@ -44,7 +44,8 @@ module _ (row : Row1) (fills others : Value → Option Value) (k : ℕ) (agree :
     same-each none b = refl
     same-each (more x xs) b = λ i. same-in x (omega arith) i ∷ same-each xs (omega arith) i
 
-same-of-fill : (row : Row1) (k : ℕ) (fills others : Value → Option Value) → Agree k fills others → (o : Option Value) → Nests k o → of_fill (goes_in row fills) o ≡ of_fill (goes_in row others) o
+same-of-fill : (row : Row1) (k : ℕ) (fills others : Value → Option Value) → Agree k fills others → (o : Option Value) → Nests k o
+    → of_fill (goes_in row fills) o ≡ of_fill (goes_in row others) o
 same-of-fill row k fills others h None g = refl
 same-of-fill row k fills others h (Some p) g = ap prototype_of (same-in row fills others k h p (g p refl))
 
@@ -74,16 +75,19 @@ module _ (row : Row2) (fills others : Value → Value → Option Value) (k : ℕ
   mutual
     same-into : (w : Value) → extent w ≤ k → (x : Value) → extent x ≤ k → goes_into row fills w x ≡ goes_into row others w x
     same-into (Array s ws f) b x c = λ i. where_agreed (agreed s (axes x))
-        (λ a. and_then (all_ok (map (λ j. same-row ws (omega arith) (j / a.left) (get_or (elements x) (j / a.right) (natural 0)) (elements-nest k x c (j / a.right)) i) (range_with_len 0 (places a.shape))))
+        (λ a. and_then (all_ok (map (λ j. same-row ws (omega arith) (j / a.left) (get_or (elements x) (j / a.right) (natural 0))
+        (elements-nest k x c (j / a.right)) i) (range_with_len 0 (places a.shape))))
         (λ ys. array a.shape (values ys) (agree (Array s ws f) x b c (omega arith) i)))
     same-into w b x c = same-in (row w) (fills w) (others w) k (λ y e h. agree w y b e (omega arith)) x c
 
-    same-row : (ws : Values) → extents ws ≤ k → (j : ℕ) (y : Value) → extent y ≤ k → get_or (rows_of row fills ws) j (λ x. Err Domain) y ≡ get_or (rows_of row others ws) j (λ x. Err Domain) y
+    same-row : (ws : Values) → extents ws ≤ k → (j : ℕ) (y : Value) → extent y ≤ k → get_or (rows_of row fills ws) j (λ x. Err Domain) y
+        ≡ get_or (rows_of row others ws) j (λ x. Err Domain) y
     same-row none b j y c = refl
     same-row (more w ws) b zero y c = same-into w (omega arith) y c
     same-row (more w ws) b (suc j) y c = same-row ws (omega arith) j y c
 
-same-of-fills : (row : Row2) (k : ℕ) (fills others : Value → Value → Option Value) → AgreeOfTwo k fills others → (o r : Option Value) → Nests k o → Nests k r → of_fills (goes_into row fills) o r ≡ of_fills (goes_into row others) o r
+same-of-fills : (row : Row2) (k : ℕ) (fills others : Value → Value → Option Value) → AgreeOfTwo k fills others → (o r : Option Value) → Nests k o
+    → Nests k r → of_fills (goes_into row fills) o r ≡ of_fills (goes_into row others) o r
 same-of-fills row k fills others h (Some p) (Some q) g l = ap prototype_of (same-into row fills others k h p (g p refl) q (l q refl))
 same-of-fills row k fills others h (Some p) None g l = refl
 same-of-fills row k fills others h None r g l = refl
@@ -93,12 +97,15 @@ fills-of-two row zero n m a c v y b d h = absurd (omega arith)
 fills-of-two row (suc k) zero m a c v y b d h = absurd (omega arith)
 fills-of-two row (suc k) (suc n) zero a c v y b d h = absurd (omega arith)
 fills-of-two row (suc k) (suc n) (suc m) a c v y b d h =
-    same-of-fills row k (fill_into row n) (fill_into row m) (fills-of-two row k n m (omega arith) (omega arith)) (fill_of v) (fill_of y) (fill-nests k v b) (fill-nests k y d)
+    same-of-fills row k (fill_into row n) (fill_into row m) (fills-of-two row k n m (omega arith) (omega arith)) (fill_of v) (fill_of y) (fill-nests k v b)
+    (fill-nests k y d)
 
 pub fills_are_followed : FillsAreFollowed
 fills_are_followed = record {
-  alone = λ row n x e h. same-in row (fill_in row n) (fill_in row fill_depth) 256 (fills-alone row 256 n fill_depth e (omega arith)) x (proper_is_within_limits.nests x h);
-  two = λ row n w x e g h. same-into row (fill_into row n) (fill_into row fill_depth) 256 (fills-of-two row 256 n fill_depth e (omega arith)) w (proper_is_within_limits.nests w g) x (proper_is_within_limits.nests x h);
+  alone = λ row n x e h. same-in row (fill_in row n) (fill_in row fill_depth) 256 (fills-alone row 256 n fill_depth e (omega arith)) x
+      (proper_is_within_limits.nests x h);
+  two = λ row n w x e g h. same-into row (fill_into row n) (fill_into row fill_depth) 256 (fills-of-two row 256 n fill_depth e (omega arith)) w
+      (proper_is_within_limits.nests w g) x (proper_is_within_limits.nests x h);
 }
 
 pub ruleset fill_laws = (fills_are_followed)

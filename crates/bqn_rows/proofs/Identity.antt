@@ -60,7 +60,8 @@ mutual
 
   values-equal : (ws xs : Values) → all_identical ws xs ≡ true → ws ≡ xs
   values-equal none none h = refl
-  values-equal (more w ws) (more x xs) h = let p = and_parts (identical w x) (all_identical ws xs) h in λ i. more (identical-equal w x p.0 i) (values-equal ws xs p.1 i)
+  values-equal (more w ws) (more x xs) h = let p = and_parts (identical w x) (all_identical ws xs) h in λ i. more (identical-equal w x p.0 i)
+      (values-equal ws xs p.1 i)
   values-equal _ _ h = cc
 
   fill-equal : (f g : Fill) → identical_fill f g ≡ true → f ≡ g
@@ -72,10 +73,12 @@ mutual
   pub identical-itself : (w : Value) → identical w w ≡ true
   identical-itself (Number w) = (signed_Decides w w).1 refl
   identical-itself (Character w) = eq-eqb w w refl
-  identical-itself (Array s ws f) = and_from (same_shape s s) (all_identical ws ws && identical_fill f f) (shape-itself s) (and_from (all_identical ws ws) (identical_fill f f) (values-itself ws) (fill-itself f))
+  identical-itself (Array s ws f) = and_from (same_shape s s) (all_identical ws ws && identical_fill f f) (shape-itself s)
+      (and_from (all_identical ws ws) (identical_fill f f) (values-itself ws) (fill-itself f))
   identical-itself (Given c) = eq-eqb c c refl
   identical-itself (Derived m ps) = and_from (same_maker m m) (all_identical ps ps) (maker-itself m) (values-itself ps)
-  identical-itself (Function b e ps) = and_from (nat_eq b b) (nat_eq e e && all_identical ps ps) (eq-eqb b b refl) (and_from (nat_eq e e) (all_identical ps ps) (eq-eqb e e refl) (values-itself ps))
+  identical-itself (Function b e ps) = and_from (nat_eq b b) (nat_eq e e && all_identical ps ps) (eq-eqb b b refl)
+      (and_from (nat_eq e e) (all_identical ps ps) (eq-eqb e e refl) (values-itself ps))
   identical-itself (Modifier1 b e) = and_from (nat_eq b b) (nat_eq e e) (eq-eqb b b refl) (eq-eqb e e refl)
   identical-itself (Modifier2 b e) = and_from (nat_eq b b) (nat_eq e e) (eq-eqb b b refl) (eq-eqb e e refl)
   identical-itself (Namespace e) = eq-eqb e e refl

@@ -35,29 +35,34 @@ carrying-proper : (f : Option Value) → IsFill f → proper_fill (carrying f) �
 carrying-proper None h = refl
 carrying-proper (Some g) h = kept-proper (nat_le (extent g) 128) g refl h.0 h.1
 
-filled-proper : (shape : List ℕ) (xs : Values) (g : Fill) (v : Value) → places shape ≡ count xs → all_proper xs ≡ true → fits_elements xs g ≡ true → proper_fill g ≡ true → made (Array shape xs g) ≡ Ok v → proper v ≡ true
+filled-proper : (shape : List ℕ) (xs : Values) (g : Fill) (v : Value) → places shape ≡ count xs → all_proper xs ≡ true → fits_elements xs g ≡ true
+    → proper_fill g ≡ true → made (Array shape xs g) ≡ Ok v → proper v ≡ true
 filled-proper shape xs g v c p e f h =
     let w = within (Array shape xs g) v h in
     subst (λ u. proper u ≡ true) (sym w.itself)
     (from-whole shape xs g (record { within = is-within (Array shape xs g) v w; counted = c; parts = p; fits = e; fill = f }))
 
-proper-array : (shape : List ℕ) (xs : Values) (f : Option Value) (v : Value) → places shape ≡ count xs → all_proper xs ≡ true → IsFill f → array shape xs f ≡ Ok v → proper v ≡ true
+proper-array : (shape : List ℕ) (xs : Values) (f : Option Value) (v : Value) → places shape ≡ count xs → all_proper xs ≡ true → IsFill f → array shape xs f
+    ≡ Ok v → proper v ≡ true
 proper-array shape none f v c p i h = filled-proper shape none (carrying f) v c p refl (carrying-proper f i) h
 proper-array shape (more x xs) f v c p i h = filled-proper shape (more x xs) unfilled v c p refl refl h
 
-proper-derived : (maker : Maker) (parts : Values) (v : Value) → is_made_of maker parts ≡ true → all_proper parts ≡ true → derived maker parts ≡ Ok v → proper v ≡ true
+proper-derived : (maker : Maker) (parts : Values) (v : Value) → is_made_of maker parts ≡ true → all_proper parts ≡ true → derived maker parts ≡ Ok v
+    → proper v ≡ true
 proper-derived maker parts v m p h =
     let w = within (Derived maker parts) v h in
     subst (λ u. proper u ≡ true) (sym w.itself)
     (and_from (is_within (Derived maker parts) && is_made_of maker parts) (all_proper parts)
     (and_from (is_within (Derived maker parts)) (is_made_of maker parts) (is-within (Derived maker parts) v w) m) p)
 
-proper-function : (block environment : ℕ) (operands : Values) (v : Value) → count operands ≤ 2 → all_proper operands ≡ true → block_function block environment operands ≡ Ok v → proper v ≡ true
+proper-function : (block environment : ℕ) (operands : Values) (v : Value) → count operands ≤ 2 → all_proper operands ≡ true
+    → block_function block environment operands ≡ Ok v → proper v ≡ true
 proper-function block environment operands v c p h =
     let w = within (Function block environment operands) v h in
     subst (λ u. proper u ≡ true) (sym w.itself)
     (and_from (is_within (Function block environment operands) && nat_le (count operands) 2) (all_proper operands)
-    (and_from (is_within (Function block environment operands)) (nat_le (count operands) 2) (is-within (Function block environment operands) v w) (le-leb (count operands) 2 c)) p)
+    (and_from (is_within (Function block environment operands)) (nat_le (count operands) 2) (is-within (Function block environment operands) v w)
+    (le-leb (count operands) 2 c)) p)
 
 pub made_is_within_limits : MadeIsWithinLimits
 made_is_within_limits = record {

@@ -218,7 +218,8 @@ shift_before_1 = refl
 
 -- `(1‿2⥊8‿9)»2‿2⥊↕4`
 shift_before_2 :
-    written (with2 p.forth (with p.reshape (numbers (1 ∷ 2 ∷ [])) (Ok (numbers (8 ∷ 9 ∷ [])))) (with p.reshape (numbers (2 ∷ 2 ∷ [])) (of p.windows (Ok (number 4)))))
+    written (with2 p.forth (with p.reshape (numbers (1 ∷ 2 ∷ [])) (Ok (numbers (8 ∷ 9 ∷ []))))
+    (with p.reshape (numbers (2 ∷ 2 ∷ [])) (of p.windows (Ok (number 4)))))
     ≡ codes "(2‿2⥊⟨8,9,0,1⟩)"
 unfolding digits
 shift_before_2 = refl

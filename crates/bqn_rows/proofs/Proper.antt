@@ -56,9 +56,11 @@ limited v h =
 
 limits : (v : Value) → proper v ≡ true → Limits v
 limits (Array shape xs f) h = limited (Array shape xs f) (whole shape xs f h).within
-limits (Derived m xs) h = limited (Derived m xs) (and_parts (is_within (Derived m xs)) (is_made_of m xs) (and_parts (is_within (Derived m xs) && is_made_of m xs) (all_proper xs) h).0).0
+limits (Derived m xs) h = limited (Derived m xs) (and_parts (is_within (Derived m xs)) (is_made_of m xs)
+    (and_parts (is_within (Derived m xs) && is_made_of m xs) (all_proper xs) h).0).0
 limits (Function b e xs) h =
-    limited (Function b e xs) (and_parts (is_within (Function b e xs)) (nat_le (count xs) 2) (and_parts (is_within (Function b e xs) && nat_le (count xs) 2) (all_proper xs) h).0).0
+    limited (Function b e xs) (and_parts (is_within (Function b e xs)) (nat_le (count xs) 2)
+    (and_parts (is_within (Function b e xs) && nat_le (count xs) 2) (all_proper xs) h).0).0
 limits v h = record { weighs = omega arith; low = omega arith; axes = tt }
 
 -- ---- how deep fills nest

@@ -77,15 +77,23 @@ mutual
   alike : (v p : Value) → prototype v ≡ Some p → Alike v p
   alike (Number n) p h = let e = some-value (Number (pos 0)) p h in record { weighs = ap weight e; stands = ap height e; nests = omega (arith, ap extent e) }
   alike (Character c) p h = let e = some-value (Character 32) p h in record { weighs = ap weight e; stands = ap height e; nests = omega (arith, ap extent e) }
-  alike (Array shape none f) p h = let e = some-value (Array shape none f) p h in record { weighs = ap weight e; stands = ap height e; nests = omega (arith, ap extent e) }
+  alike (Array shape none f) p h =
+      let e = some-value (Array shape none f) p h in
+      record { weighs = ap weight e; stands = ap height e; nests = omega (arith, ap extent e) }
   alike (Array shape (more x xs) f) p h =
       let e = elements shape (both (prototype x) (prototypes xs)) p h in
       let a = all-alike (more x xs) e.rest e.found in
-      record { weighs = ap weight e.whole ∙ ap (λ n. 1 + n) a.weighs; stands = ap height e.whole ∙ ap suc a.stands; nests = omega (arith, ap extent e.whole, a.nests) }
+      record {
+        weighs = ap weight e.whole ∙ ap (λ n. 1 + n) a.weighs;
+        stands = ap height e.whole ∙ ap suc a.stands;
+        nests = omega (arith, ap extent e.whole, a.nests);
+      }
   alike _ p h = absurd cc
 
   all-alike : (vs ps : Values) → prototypes vs ≡ Some ps → AllAlike vs ps
-  all-alike none ps h = let e = some-values none ps h in record { weighs = ap weights e; stands = ap heights e; nests = omega (arith, ap extents e); counted = ap count e }
+  all-alike none ps h =
+      let e = some-values none ps h in
+      record { weighs = ap weights e; stands = ap heights e; nests = omega (arith, ap extents e); counted = ap count e }
   all-alike (more x xs) ps h =
       let s = parts (prototype x) (prototypes xs) ps h in
       let a = alike x s.head s.first in
@@ -102,7 +110,8 @@ prototype-nests v p h = (alike v p h).nests
 
 -- ---- it is proper
 
-within-alike : (shape : List ℕ) (xs rs : Values) (f g : Fill) → weights rs ≡ weights xs → heights rs ≡ heights xs → is_within (Array shape xs f) ≡ true → is_within (Array shape rs g) ≡ true
+within-alike : (shape : List ℕ) (xs rs : Values) (f g : Fill) → weights rs ≡ weights xs → heights rs ≡ heights xs → is_within (Array shape xs f) ≡ true
+    → is_within (Array shape rs g) ≡ true
 within-alike shape xs rs f g w t h = (λ i. (is_shape shape && nat_le (1 + w i) (2 ^ 22)) && nat_le (suc (t i)) 128) ∙ h
 
 unfilled-fits : (xs : Values) → fits_elements xs unfilled ≡ true
@@ -128,7 +137,8 @@ mutual
       (record {
         within = within-alike shape (more x xs) e.rest f unfilled l.weighs l.stands w.within;
         counted = w.counted ∙ sym l.counted;
-        parts = ap all_proper s.whole ∙ and_from (proper s.head) (all_proper s.rest) (proper-kept x s.head k.0 s.first) (all-proper-kept xs s.rest k.1 s.others);
+        parts = ap all_proper s.whole ∙ and_from (proper s.head) (all_proper s.rest) (proper-kept x s.head k.0 s.first)
+            (all-proper-kept xs s.rest k.1 s.others);
         fits = unfilled-fits e.rest;
         fill = refl;
       }))
@@ -161,7 +171,8 @@ prototype-fill v p a h = (ap (is_identical_to p) (own v p h) ∙ identical-itsel
 
 fill-kept : (v p : Value) → proper v ≡ true → fill_of v ≡ Some p → IsFill (Some p)
 fill-kept (Array shape none f) p a h = subst IsFill h (may-carry f (whole shape none f a).fill)
-fill-kept (Array shape (more x xs) f) p a h = prototype-fill x p (and_parts (proper x) (all_proper xs) (whole shape (more x xs) f a).parts).0 (common-first x xs p h)
+fill-kept (Array shape (more x xs) f) p a h = prototype-fill x p (and_parts (proper x) (all_proper xs) (whole shape (more x xs) f a).parts).0
+    (common-first x xs p h)
 fill-kept v p a h = prototype-fill v p a h
 
 pub prototypes_are_fills : PrototypesAreFills

@@ -25,6 +25,12 @@ fill-carried unfilled = refl
 fill-carried (filled v) = refl
 
 pub rows_are_lists : RowsAreLists
-rows_are_lists = record { list_of_row = list-values; row_of_list = values-list; counted = count-values; carried_fill = carried-fill; fill_carried = fill-carried }
+rows_are_lists = record {
+  list_of_row = list-values;
+  row_of_list = values-list;
+  counted = count-values;
+  carried_fill = carried-fill;
+  fill_carried = fill-carried;
+}
 
 pub ruleset row_laws = (rows_are_lists)

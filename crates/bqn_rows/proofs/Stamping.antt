@@ -10,7 +10,8 @@ kept : (p q : Place) (f : Fault) → stamped p (record { fault = f; place = Some
 unfolding first_of
 kept p q f = refl
 
-given : (line column : ℕ) (f : Fault) → stamped (record { line = suc line; column = column }) (unplaced f) ≡ record { fault = f; place = Some (record { line = suc line; column = column }) }
+given : (line column : ℕ) (f : Fault) → stamped (record { line = suc line; column = column }) (unplaced f)
+    ≡ record { fault = f; place = Some (record { line = suc line; column = column }) }
 unfolding first_of
 given line column f = refl
 

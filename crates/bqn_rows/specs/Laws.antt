@@ -57,7 +57,8 @@ pub record MatchIsSameData : Type 0 where
 -- the order is total, and what it does not tell apart matches, at any level; what matches it does not tell apart
 pub record OrderIsTotal : Type 0 where
   pub total : IsTotalOrder ordered
-  pub tied : (k : ℕ) (w x : Value) → proper w ≡ true → proper x ≡ true → is_level k (levels w) ≡ true → is_level k (levels x) ≡ true → ordered w x ≡ Equal → matching w x ≡ Ok true
+  pub tied : (k : ℕ) (w x : Value) → proper w ≡ true → proper x ≡ true → is_level k (levels w) ≡ true → is_level k (levels x) ≡ true → ordered w x ≡ Equal
+      → matching w x ≡ Ok true
   pub matched : (w x : Value) → matching w x ≡ Ok true → ordered w x ≡ Equal
 
 abbrev pub all_of_level : ℕ → Values → Bool
@@ -88,9 +89,12 @@ pub record MadeIsWithinLimits : Type 0 where
   pub weighs : (v made_value : Value) → made v ≡ Ok made_value → weight made_value ≤ 2 ^ 22
   pub low : (v made_value : Value) → made v ≡ Ok made_value → height made_value ≤ 128
   pub axes : (v made_value : Value) → made v ≡ Ok made_value → HasAxes made_value
-  pub proper_array : (shape : List ℕ) (xs : Values) (f : Option Value) (v : Value) → places shape ≡ count xs → all_proper xs ≡ true → IsFill f → array shape xs f ≡ Ok v → proper v ≡ true
-  pub proper_derived : (maker : Maker) (parts : Values) (v : Value) → is_made_of maker parts ≡ true → all_proper parts ≡ true → derived maker parts ≡ Ok v → proper v ≡ true
-  pub proper_function : (block environment : ℕ) (operands : Values) (v : Value) → count operands ≤ 2 → all_proper operands ≡ true → block_function block environment operands ≡ Ok v → proper v ≡ true
+  pub proper_array : (shape : List ℕ) (xs : Values) (f : Option Value) (v : Value) → places shape ≡ count xs → all_proper xs ≡ true → IsFill f
+      → array shape xs f ≡ Ok v → proper v ≡ true
+  pub proper_derived : (maker : Maker) (parts : Values) (v : Value) → is_made_of maker parts ≡ true → all_proper parts ≡ true → derived maker parts ≡ Ok v
+      → proper v ≡ true
+  pub proper_function : (block environment : ℕ) (operands : Values) (v : Value) → count operands ≤ 2 → all_proper operands ≡ true
+      → block_function block environment operands ≡ Ok v → proper v ≡ true
 
 -- what an array is proper by
 pub record ProperArray (shape : List ℕ) (xs : Values) (f : Fill) : Type 0 where
@@ -143,6 +147,7 @@ pub record FillsAreFollowed : Type 0 where
 -- a place that is there stays, one that has none gets this one, and none where this is none
 pub record PlacesStay : Type 0 where
   pub kept : (p q : Place) (f : Fault) → stamped p (record { fault = f; place = Some q }) ≡ record { fault = f; place = Some q }
-  pub given : (line column : ℕ) (f : Fault) → stamped (record { line = suc line; column = column }) (unplaced f) ≡ record { fault = f; place = Some (record { line = suc line; column = column }) }
+  pub given : (line column : ℕ) (f : Fault) → stamped (record { line = suc line; column = column }) (unplaced f)
+      ≡ record { fault = f; place = Some (record { line = suc line; column = column }) }
   pub no_place : (r : Raised) → stamped nowhere r ≡ r
   pub once : (p q : Place) (r : Raised) → stamped p (stamped p r) ≡ stamped p r

@@ -23,8 +23,9 @@ pub data Primitive : Type 0 where
 
 abbrev pub primitives : List Primitive
 primitives =
-    plus ∷ minus ∷ times ∷ divide ∷ power ∷ root ∷ floor ∷ ceiling ∷ bar ∷ not_sign ∷ and_sign ∷ or_sign ∷ less ∷ greater ∷ unequal ∷ equal ∷ at_most ∷ at_least ∷ match ∷ not_match ∷
-    left ∷ right ∷ reshape ∷ join ∷ couple ∷ pair ∷ take ∷ drop ∷ windows ∷ back ∷ forth ∷ rotate ∷ transpose ∷ slash ∷ grade_up ∷ grade_down ∷ select ∷ pick ∷ index_of ∷ progressive ∷ member ∷ find ∷ group ∷ assert ∷ []
+    plus ∷ minus ∷ times ∷ divide ∷ power ∷ root ∷ floor ∷ ceiling ∷ bar ∷ not_sign ∷ and_sign ∷ or_sign ∷ less ∷ greater ∷ unequal ∷ equal ∷
+    at_most ∷ at_least ∷ match ∷ not_match ∷ left ∷ right ∷ reshape ∷ join ∷ couple ∷ pair ∷ take ∷ drop ∷ windows ∷ back ∷ forth ∷ rotate ∷
+    transpose ∷ slash ∷ grade_up ∷ grade_down ∷ select ∷ pick ∷ index_of ∷ progressive ∷ member ∷ find ∷ group ∷ assert ∷ []
 
 -- what a primitive answers without a left argument
 abbrev pub monadic : Primitive → Value → Result Value Fault

@@ -52,13 +52,18 @@ mutual
   value-stored (Number n) (Number m) p = ap Number (coded_ℤ.inj n m (ap right p))
   value-stored (Character n) (Character m) p = ap Character (coded_ℕ.inj n m (ap right p))
   value-stored (Array s ws f) (Array t xs g) p =
-      λ i. Array ((coded_list coded_ℕ).inj s t (ap (λ c. left (right c)) p) i) (row-stored ws xs (ap (λ c. left (right (right c))) p) i) (fill-stored f g (ap (λ c. right (right (right c))) p) i)
+      λ i. Array ((coded_list coded_ℕ).inj s t (ap (λ c. left (right c)) p) i) (row-stored ws xs (ap (λ c. left (right (right c))) p) i)
+      (fill-stored f g (ap (λ c. right (right (right c))) p) i)
   value-stored (Given n) (Given m) p = ap Given (coded_ℕ.inj n m (ap right p))
-  value-stored (Derived m ps) (Derived n qs) p = λ i. Derived (maker-stored m n (ap (λ c. left (right c)) p) i) (row-stored ps qs (ap (λ c. right (right c)) p) i)
+  value-stored (Derived m ps) (Derived n qs) p = λ i. Derived (maker-stored m n (ap (λ c. left (right c)) p) i)
+      (row-stored ps qs (ap (λ c. right (right c)) p) i)
   value-stored (Function b e ps) (Function c f qs) p =
-      λ i. Function (coded_ℕ.inj b c (ap (λ c. left (right c)) p) i) (coded_ℕ.inj e f (ap (λ c. left (right (right c))) p) i) (row-stored ps qs (ap (λ c. right (right (right c))) p) i)
-  value-stored (Modifier1 b e) (Modifier1 c f) p = λ i. Modifier1 (coded_ℕ.inj b c (ap (λ c. left (right c)) p) i) (coded_ℕ.inj e f (ap (λ c. right (right c)) p) i)
-  value-stored (Modifier2 b e) (Modifier2 c f) p = λ i. Modifier2 (coded_ℕ.inj b c (ap (λ c. left (right c)) p) i) (coded_ℕ.inj e f (ap (λ c. right (right c)) p) i)
+      λ i. Function (coded_ℕ.inj b c (ap (λ c. left (right c)) p) i) (coded_ℕ.inj e f (ap (λ c. left (right (right c))) p) i)
+      (row-stored ps qs (ap (λ c. right (right (right c))) p) i)
+  value-stored (Modifier1 b e) (Modifier1 c f) p = λ i. Modifier1 (coded_ℕ.inj b c (ap (λ c. left (right c)) p) i)
+      (coded_ℕ.inj e f (ap (λ c. right (right c)) p) i)
+  value-stored (Modifier2 b e) (Modifier2 c f) p = λ i. Modifier2 (coded_ℕ.inj b c (ap (λ c. left (right c)) p) i)
+      (coded_ℕ.inj e f (ap (λ c. right (right c)) p) i)
   value-stored (Namespace n) (Namespace m) p = ap Namespace (coded_ℕ.inj n m (ap right p))
   value-stored _ _ p = cc
 
