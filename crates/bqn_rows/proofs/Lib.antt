@@ -10,12 +10,4 @@ pub mod Rows
 pub mod Following
 pub mod Questioning
 pub mod Stamping
-mod ValueSamples
-mod CallSamples
-mod SampleTerms
-mod ArithmeticSamples
-mod StructureSamples
-mod MovingSamples
-mod SelectionSamples
-mod OrderingSamples
-mod SearchingSamples
+mod samples

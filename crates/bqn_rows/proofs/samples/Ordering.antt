@@ -4,7 +4,7 @@ use lib.Chars.{codes}
 use Rattle.std.specs.Fmt.{digits}
 use Rattle.bqn_base.specs.declared.fault.Fault.TheVariants.{Domain, Rank, NoOrder}
 use Rattle.bqn_rows.specs.Primitives as p
-use Rattle.bqn_rows.proofs.SampleTerms.{number, negative, listed, numbers, text, of, with, with2, written}
+use Rattle.bqn_rows.proofs.samples.Terms.{number, negative, listed, numbers, text, of, with, with2, written}
 
 -- `∧3‿1`
 sort_up_1 : written (of p.and_sign (Ok (numbers (3 ∷ 1 ∷ [])))) ≡ codes "⟨1,3⟩"

@@ -4,7 +4,7 @@ use lib.Chars.{codes}
 use Rattle.std.specs.Fmt.{digits}
 use Rattle.bqn_base.specs.declared.fault.Fault.TheVariants.{Domain, Rank, Length, Index, LeftOut}
 use Rattle.bqn_rows.specs.Primitives as p
-use Rattle.bqn_rows.proofs.SampleTerms.{number, negative, character, listed, numbers, no_list, text, of, with, with2, written}
+use Rattle.bqn_rows.proofs.samples.Terms.{number, negative, character, listed, numbers, no_list, text, of, with, with2, written}
 
 -- `/1‿0‿2`
 indices_1 : written (of p.slash (Ok (numbers (1 ∷ 0 ∷ 2 ∷ [])))) ≡ codes "⟨0,2,2⟩"

@@ -4,7 +4,7 @@ use lib.Chars.{codes}
 use Rattle.std.specs.Fmt.{digits}
 use Rattle.bqn_base.specs.declared.fault.Fault.TheVariants.{Domain, Rank, Length, LeftOut}
 use Rattle.bqn_rows.specs.Primitives as p
-use Rattle.bqn_rows.proofs.SampleTerms.{number, negative, character, listed, numbers, no_list, text, of, with, with2, written}
+use Rattle.bqn_rows.proofs.samples.Terms.{number, negative, character, listed, numbers, no_list, text, of, with, with2, written}
 
 -- `⊐"aba"`
 classify_1 : written (of p.index_of (Ok (text (codes "aba")))) ≡ codes "⟨0,1,0⟩"

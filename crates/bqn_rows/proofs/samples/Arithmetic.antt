@@ -5,7 +5,7 @@ use Rattle.std.specs.Fmt.{digits}
 use Rattle.bqn_base.specs.declared.fault.Fault.TheVariants.{Domain, Length, NotWhole, DivideByZero}
 use Rattle.bqn_rows.specs.Plain.{Given}
 use Rattle.bqn_rows.specs.Primitives as p
-use Rattle.bqn_rows.proofs.SampleTerms.{number, negative, character, listed, numbers, no_list, text, of, with, with2, written}
+use Rattle.bqn_rows.proofs.samples.Terms.{number, negative, character, listed, numbers, no_list, text, of, with, with2, written}
 
 -- `+ 4`
 plus_alone_1 : written (of p.plus (Ok (number 4))) ≡ codes "4"
