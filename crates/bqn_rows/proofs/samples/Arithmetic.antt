@@ -2,7 +2,7 @@
 use Rattle.std.proofs.Common.{◌≡◌, [], ◌∷◌, Ok, Err, refl}
 use lib.Chars.{codes}
 use Rattle.std.specs.Fmt.{digits}
-use Rattle.bqn_base.specs.declared.fault.Fault.TheVariants.{Domain, Length, NotWhole, DivideByZero}
+use Rattle.bqn_base.specs.declared.fault.Fault.TheVariants.{Domain, Length, NotWhole, DivideByZero, CharRange, Overflow, NoCompare}
 use Rattle.bqn_rows.specs.Plain.{Given}
 use Rattle.bqn_rows.specs.Primitives as p
 use Rattle.bqn_rows.proofs.samples.Terms.{number, negative, character, listed, numbers, no_list, text, of, with, with2, written}
@@ -49,6 +49,18 @@ plus_4 = refl
 plus_5 : written (with p.plus (number 2) (Ok (character (codes "z")))) ≡ codes "'|'"
 plus_5 = refl
 
+-- `'a'+¯98‿1`
+plus_6 : with p.plus (character (codes "a")) (Ok (listed ((negative 98) ∷ (number 1) ∷ []))) ≡ Err CharRange
+plus_6 = refl
+
+-- `"a"+"b"`
+plus_7 : with p.plus (text (codes "a")) (Ok (text (codes "b"))) ≡ Err Domain
+plus_7 = refl
+
+-- `9223372036854775807+⟨1⟩`
+plus_8 : with p.plus (number 9223372036854775807) (Ok (numbers (1 ∷ []))) ≡ Err Overflow
+plus_8 = refl
+
 -- `- ¯2`
 minus_alone_1 : written (of p.minus (Ok (negative 2))) ≡ codes "2"
 unfolding digits
@@ -78,6 +90,10 @@ minus_3 = refl
 -- `"  " - (1‿2⥊5)`
 minus_4 : with p.minus (text (codes "  ")) (with p.reshape (numbers (1 ∷ 2 ∷ [])) (Ok (number 5))) ≡ Err Length
 minus_4 = refl
+
+-- `¯9223372036854775808-⟨1⟩`
+minus_5 : with p.minus (negative 9223372036854775808) (Ok (numbers (1 ∷ []))) ≡ Err Overflow
+minus_5 = refl
 
 -- `× 2`
 times_alone_1 : written (of p.times (Ok (number 2))) ≡ codes "1"
@@ -109,6 +125,10 @@ times_3 = refl
 -- `⟨⟨⟩⟩ × ⟨0,'a'⟩`
 times_4 : with p.times (listed (no_list ∷ [])) (Ok (listed ((number 0) ∷ (character (codes "a")) ∷ []))) ≡ Err Length
 times_4 = refl
+
+-- `9223372036854775807×⟨2⟩`
+times_5 : with p.times (number 9223372036854775807) (Ok (numbers (2 ∷ []))) ≡ Err Overflow
+times_5 = refl
 
 -- `÷ 2‿2`
 divide_alone_1 : of p.divide (Ok (numbers (2 ∷ 2 ∷ []))) ≡ Err NotWhole
@@ -146,6 +166,10 @@ divide_5 = refl
 -- `"ab" ÷ (0‿2⥊"")`
 divide_6 : with p.divide (text (codes "ab")) (with p.reshape (numbers (0 ∷ 2 ∷ [])) (Ok (text (codes "")))) ≡ Err Length
 divide_6 = refl
+
+-- `7÷⟨2⟩`
+divide_7 : with p.divide (number 7) (Ok (numbers (2 ∷ []))) ≡ Err NotWhole
+divide_7 = refl
 
 -- `⋆ 4`
 power_alone_1 : of p.power (Ok (number 4)) ≡ Err NotWhole
@@ -383,6 +407,10 @@ less_2 = refl
 less_3 : with p.less (text (codes "b")) (Ok no_list) ≡ Err Length
 less_3 = refl
 
+-- `⟨+⟩<1`
+less_4 : with p.less (listed ((Given 0) ∷ [])) (Ok (number 1)) ≡ Err Domain
+less_4 = refl
+
 -- `1 > 'z'`
 greater_1 : written (with p.greater (number 1) (Ok (character (codes "z")))) ≡ codes "0"
 unfolding digits
@@ -401,6 +429,10 @@ unequal_1 = refl
 unequal_2 : with2 p.unequal (with p.reshape (numbers (1 ∷ 2 ∷ [])) (Ok (number 5))) (Ok (numbers (2 ∷ 2 ∷ []))) ≡ Err Length
 unequal_2 = refl
 
+-- `⟨+⟩≠⟨-⟩`
+unequal_3 : with p.unequal (listed ((Given 0) ∷ [])) (Ok (listed ((Given 1) ∷ []))) ≡ Err NoCompare
+unequal_3 = refl
+
 -- `⟨16381⟩=1`
 equal_1 : written (with p.equal (numbers (16381 ∷ [])) (Ok (number 1))) ≡ codes "⟨0⟩"
 unfolding digits
@@ -409,6 +441,10 @@ equal_1 = refl
 -- `⟨0⟩ = 0‿1‿1‿2`
 equal_2 : with p.equal (numbers (0 ∷ [])) (Ok (numbers (0 ∷ 1 ∷ 1 ∷ 2 ∷ []))) ≡ Err Length
 equal_2 = refl
+
+-- `⟨+⟩=⟨-⟩`
+equal_3 : with p.equal (listed ((Given 0) ∷ [])) (Ok (listed ((Given 1) ∷ []))) ≡ Err NoCompare
+equal_3 = refl
 
 -- `≤ "ab"`
 at_most_alone_1 : of p.at_most (Ok (text (codes "ab"))) ≡ Err Domain

@@ -11,6 +11,10 @@ use Rattle.bqn_rows.proofs.samples.Terms.{number, negative, character, listed, n
 prefixes_1 : written (of p.take (Ok (text (codes "ab")))) ≡ codes "⟨\"\",\"a\",\"ab\"⟩"
 prefixes_1 = refl
 
+-- `↑4`
+prefixes_2 : of p.take (Ok (number 4)) ≡ Err Rank
+prefixes_2 = refl
+
 -- `5↑1‿2`
 take_1 : written (with p.take (number 5) (Ok (numbers (1 ∷ 2 ∷ [])))) ≡ codes "⟨1,2,0,0,0⟩"
 unfolding digits
@@ -120,6 +124,10 @@ range_6 = refl
 range_7 : of p.windows (with p.reshape (numbers (2 ∷ 1 ∷ [])) (Ok (listed ((number 1) ∷ (character (codes "a")) ∷ [])))) ≡ Err Rank
 range_7 = refl
 
+-- `↕17⥊1`
+range_8 : of p.windows (with p.reshape (number 17) (Ok (number 1))) ≡ Err TooLarge
+range_8 = refl
+
 -- `2↕↕4`
 windows_1 : written (with p.windows (number 2) (of p.windows (Ok (number 4)))) ≡ codes "(3‿2⥊⟨0,1,1,2,2,3⟩)"
 unfolding digits
@@ -190,6 +198,10 @@ shift_after_2 = refl
 shift_after_3 : with2 p.back (with p.reshape (numbers (2 ∷ 0 ∷ [])) (Ok (number 0))) (Ok no_list) ≡ Err Rank
 shift_after_3 = refl
 
+-- `1‿2‿3«2‿2⥊↕4`
+shift_after_4 : with p.back (numbers (1 ∷ 2 ∷ 3 ∷ [])) (with p.reshape (numbers (2 ∷ 2 ∷ [])) (of p.windows (Ok (number 4)))) ≡ Err Length
+shift_after_4 = refl
+
 -- `»1‿2‿3`
 nudge_1 : written (of p.forth (Ok (numbers (1 ∷ 2 ∷ 3 ∷ [])))) ≡ codes "⟨0,1,2⟩"
 unfolding digits
@@ -227,6 +239,10 @@ shift_before_2 = refl
 -- `9 » (2‿0⥊0)`
 shift_before_3 : with p.forth (number 9) (with p.reshape (numbers (2 ∷ 0 ∷ [])) (Ok (number 0))) ≡ Err Rank
 shift_before_3 = refl
+
+-- `1‿2‿3»2‿2⥊↕4`
+shift_before_4 : with p.forth (numbers (1 ∷ 2 ∷ 3 ∷ [])) (with p.reshape (numbers (2 ∷ 2 ∷ [])) (of p.windows (Ok (number 4)))) ≡ Err Length
+shift_before_4 = refl
 
 -- `⌽"ab"`
 reverse_1 : written (of p.rotate (Ok (text (codes "ab")))) ≡ codes "\"ba\""

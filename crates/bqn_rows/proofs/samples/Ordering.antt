@@ -85,6 +85,10 @@ bins_up_3 = refl
 bins_up_4 : with p.grade_up (number 1) (Ok (text (codes "aba"))) ≡ Err Rank
 bins_up_4 = refl
 
+-- `1‿2⍋⟨⟨1⟩⟩`
+bins_up_5 : with p.grade_up (numbers (1 ∷ 2 ∷ [])) (Ok (listed ((numbers (1 ∷ [])) ∷ []))) ≡ Err NoOrder
+bins_up_5 = refl
+
 -- `⍒3‿1‿3‿2`
 grade_down_1 : written (of p.grade_down (Ok (numbers (3 ∷ 1 ∷ 3 ∷ 2 ∷ [])))) ≡ codes "⟨0,2,3,1⟩"
 unfolding digits
@@ -114,3 +118,7 @@ bins_down_2 = refl
 -- `(2‿2⥊↕4) ⍒ ""`
 bins_down_3 : with2 p.grade_down (with p.reshape (numbers (2 ∷ 2 ∷ [])) (of p.windows (Ok (number 4)))) (Ok (text (codes ""))) ≡ Err Domain
 bins_down_3 = refl
+
+-- `2‿1⍒⟨⟨1⟩⟩`
+bins_down_4 : with p.grade_down (numbers (2 ∷ 1 ∷ [])) (Ok (listed ((numbers (1 ∷ [])) ∷ []))) ≡ Err NoOrder
+bins_down_4 = refl

@@ -19,6 +19,10 @@ indices_2 = refl
 indices_3 : of p.slash (Ok (number 4)) ≡ Err Rank
 indices_3 = refl
 
+-- `/⟨¯1⟩`
+indices_4 : of p.slash (Ok (listed ((negative 1) ∷ []))) ≡ Err Domain
+indices_4 = refl
+
 -- `0‿2‿0‿1/"abcd"`
 replicate_1 : written (with p.slash (numbers (0 ∷ 2 ∷ 0 ∷ 1 ∷ [])) (Ok (text (codes "abcd")))) ≡ codes "\"bbd\""
 replicate_1 = refl
@@ -43,6 +47,10 @@ replicate_5 = refl
 replicate_6 : written (with p.slash (number 0) (Ok (text (codes "")))) ≡ codes "\"\""
 replicate_6 = refl
 
+-- `(1‿1⥊1)/1‿2`
+replicate_7 : with2 p.slash (with p.reshape (numbers (1 ∷ 1 ∷ [])) (Ok (number 1))) (Ok (numbers (1 ∷ 2 ∷ []))) ≡ Err Rank
+replicate_7 = refl
+
 -- `⊏1‿2`
 first_cell_1 : written (of p.select (Ok (numbers (1 ∷ 2 ∷ [])))) ≡ codes "(<1)"
 unfolding digits
@@ -51,6 +59,10 @@ first_cell_1 = refl
 -- `⊏ 2`
 first_cell_2 : of p.select (Ok (number 2)) ≡ Err Rank
 first_cell_2 = refl
+
+-- `⊏⟨⟩`
+first_cell_3 : of p.select (Ok no_list) ≡ Err Length
+first_cell_3 = refl
 
 -- `3‿¯1⊏"abcd"`
 select_1 : written (with p.select (listed ((number 3) ∷ (negative 1) ∷ [])) (Ok (text (codes "abcd")))) ≡ codes "\"dd\""
@@ -112,3 +124,11 @@ pick_3 = refl
 -- `(2‿0⥊0) ⊑ ""`
 pick_4 : with2 p.pick (with p.reshape (numbers (2 ∷ 0 ∷ [])) (Ok (number 0))) (Ok (text (codes ""))) ≡ Err Rank
 pick_4 = refl
+
+-- `⟨0,⟨1⟩⟩⊑2‿2⥊↕4`
+pick_5 : with p.pick (listed ((number 0) ∷ (numbers (1 ∷ [])) ∷ [])) (with p.reshape (numbers (2 ∷ 2 ∷ [])) (of p.windows (Ok (number 4)))) ≡ Err LeftOut
+pick_5 = refl
+
+-- `5⊑1‿2`
+pick_6 : with p.pick (number 5) (Ok (numbers (1 ∷ 2 ∷ []))) ≡ Err Index
+pick_6 = refl

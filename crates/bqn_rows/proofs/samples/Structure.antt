@@ -2,7 +2,8 @@
 use Rattle.std.proofs.Common.{◌≡◌, [], ◌∷◌, Ok, Err, refl}
 use lib.Chars.{codes}
 use Rattle.std.specs.Fmt.{digits}
-use Rattle.bqn_base.specs.declared.fault.Fault.TheVariants.{Domain, Rank, Length, LeftOut, TooLarge, Assert}
+use Rattle.bqn_base.specs.declared.fault.Fault.TheVariants.{Domain, Rank, Length, LeftOut, TooLarge, Assert, NoCompare}
+use Rattle.bqn_rows.specs.Plain.{Given}
 use Rattle.bqn_rows.specs.Primitives as p
 use Rattle.bqn_rows.proofs.samples.Terms.{number, negative, character, listed, numbers, no_list, text, of, with, with2, written}
 
@@ -73,6 +74,10 @@ match_1 : written (with p.match (number 1) (Ok (number 65))) ≡ codes "0"
 unfolding digits
 match_1 = refl
 
+-- `⟨+⟩≡⟨-⟩`
+match_2 : with p.match (listed ((Given 0) ∷ [])) (Ok (listed ((Given 1) ∷ []))) ≡ Err NoCompare
+match_2 = refl
+
 -- `≢2‿3⥊0`
 shape_1 : written (of p.not_match (with p.reshape (numbers (2 ∷ 3 ∷ [])) (Ok (number 0)))) ≡ codes "⟨2,3⟩"
 unfolding digits
@@ -86,6 +91,10 @@ shape_2 = refl
 not_match_1 : written (with p.not_match (number 2) (Ok (numbers (0 ∷ [])))) ≡ codes "1"
 unfolding digits
 not_match_1 = refl
+
+-- `⟨+⟩≢⟨-⟩`
+not_match_2 : with p.not_match (listed ((Given 0) ∷ [])) (Ok (listed ((Given 1) ∷ []))) ≡ Err NoCompare
+not_match_2 = refl
 
 -- `⥊<5`
 deshape_1 : written (of p.reshape (of p.less (Ok (number 5)))) ≡ codes "⟨5⟩"
@@ -232,6 +241,10 @@ pair_1 = refl
 assert_1 : written (of p.assert (Ok (number 1))) ≡ codes "1"
 unfolding digits
 assert_1 = refl
+
+-- `!0`
+assert_2 : of p.assert (Ok (number 0)) ≡ Err (Assert [])
+assert_2 = refl
 
 -- `1!2`
 assert_with_1 : with p.assert (number 1) (Ok (number 2)) ≡ Err (Assert (codes "1"))
