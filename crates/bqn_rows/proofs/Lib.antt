@@ -1,3 +1,4 @@
+pub mod Identity
 pub mod Matching
 pub mod Order
 pub mod Ties
@@ -5,7 +6,8 @@ pub mod Levels
 pub mod Proper
 pub mod Prototypes
 pub mod Making
+pub mod Rows
+pub mod Following
 pub mod Questioning
 pub mod Stamping
-mod ValueSamples
-mod CallSamples
+mod samples

@@ -1,11 +1,11 @@
 -- What is made keeps the limits, and is proper where its parts are.
-use Rattle.std.proofs.Common.{◌≡◌, ◌≤◌, ◌^◌, ℕ, Bool, true, false, ◌&&◌, nat_le, List, length, Option, Some, None, Ok, refl, sym, subst, leb-true, le-leb}
-use Rattle.std.proofs.lemmas.Bool.{and_parts, and_from}
+use Rattle.std.proofs.Common.{◌≡◌, ◌≤◌, ◌^◌, ℕ, Bool, true, false, ◌&&◌, nat_le, List, Option, Some, None, Ok, refl, sym, subst, leb-true, le-leb}
+use Rattle.std.proofs.lemmas.Bool.{and_from}
 use Rattle.bqn_rows.specs.Plain.{Maker, Value, Array, Derived, Function, Values, none, more, Fill, unfilled, count}
 use Rattle.bqn_rows.specs.Relations.{weight, height, extent, prototype}
-use Rattle.bqn_rows.specs.Limits.{places, size, is_shape, is_small, is_low, is_within, if_within, made, kept, carrying, array, derived, block_function, is_made_of, is_same_as, is_fill, fits_elements, proper, all_proper, proper_fill}
+use Rattle.bqn_rows.specs.Limits.{places, is_small, is_low, is_within, if_within, made, kept, carrying, array, derived, block_function, is_made_of, is_identical_to, is_fill, fits_elements, proper, all_proper, proper_fill}
 use Rattle.bqn_rows.specs.Laws.{HasAxes, IsFill, MadeIsWithinLimits}
-use Rattle.bqn_rows.proofs.Proper.{from-whole}
+use Rattle.bqn_rows.proofs.Proper.{from-whole, small-weighs, small-axes}
 
 -- ---- limits
 
@@ -22,53 +22,47 @@ within-by false low v u s l h = absurd cc
 within : (v u : Value) → made v ≡ Ok u → Within v u
 within v u h = within-by (is_small v) (is_low v) v u refl refl h
 
-small-weighs : (v : Value) → is_small v ≡ true → weight v ≤ 2 ^ 22
-small-weighs (Array shape xs f) h = leb-true (weight (Array shape xs f)) (2 ^ 22) (and_parts (is_shape shape) (nat_le (weight (Array shape xs f)) (2 ^ 22)) h).1
-small-weighs v h = leb-true (weight v) (2 ^ 22) h
-
-small-axes : (v : Value) → is_small v ≡ true → HasAxes v
-small-axes (Array shape xs f) h =
-    let p = and_parts (is_shape shape) (nat_le (weight (Array shape xs f)) (2 ^ 22)) h in
-    let q = and_parts (nat_le (length shape) 16) (nat_le (size shape) (2 ^ 22)) p.0 in
-    (leb-true (length shape) 16 q.0, leb-true (size shape) (2 ^ 22) q.1)
-small-axes v h = tt
-
 is-within : (v u : Value) → Within v u → is_within v ≡ true
 is-within v u w = and_from (is_small v) (is_low v) w.small w.low
 
 -- ---- proper values
 
-kept-proper : (b : Bool) (g : Value) → nat_le (extent g) 128 ≡ b → is_same_as g (prototype g) ≡ true → proper g ≡ true → proper_fill (kept b g) ≡ true
-kept-proper true g e s p = and_from (is_fill g) (proper g) (and_from (is_same_as g (prototype g)) (nat_le (extent g) 128) s e) p
+kept-proper : (b : Bool) (g : Value) → nat_le (extent g) 128 ≡ b → is_identical_to g (prototype g) ≡ true → proper g ≡ true → proper_fill (kept b g) ≡ true
+kept-proper true g e s p = and_from (is_fill g) (proper g) (and_from (is_identical_to g (prototype g)) (nat_le (extent g) 128) s e) p
 kept-proper false g e s p = refl
 
 carrying-proper : (f : Option Value) → IsFill f → proper_fill (carrying f) ≡ true
 carrying-proper None h = refl
 carrying-proper (Some g) h = kept-proper (nat_le (extent g) 128) g refl h.0 h.1
 
-filled-proper : (shape : List ℕ) (xs : Values) (g : Fill) (v : Value) → places shape ≡ count xs → all_proper xs ≡ true → fits_elements xs g ≡ true → proper_fill g ≡ true → made (Array shape xs g) ≡ Ok v → proper v ≡ true
+filled-proper : (shape : List ℕ) (xs : Values) (g : Fill) (v : Value) → places shape ≡ count xs → all_proper xs ≡ true → fits_elements xs g ≡ true
+    → proper_fill g ≡ true → made (Array shape xs g) ≡ Ok v → proper v ≡ true
 filled-proper shape xs g v c p e f h =
     let w = within (Array shape xs g) v h in
     subst (λ u. proper u ≡ true) (sym w.itself)
     (from-whole shape xs g (record { within = is-within (Array shape xs g) v w; counted = c; parts = p; fits = e; fill = f }))
 
-proper-array : (shape : List ℕ) (xs : Values) (f : Option Value) (v : Value) → places shape ≡ count xs → all_proper xs ≡ true → IsFill f → array shape xs f ≡ Ok v → proper v ≡ true
+proper-array : (shape : List ℕ) (xs : Values) (f : Option Value) (v : Value) → places shape ≡ count xs → all_proper xs ≡ true → IsFill f → array shape xs f
+    ≡ Ok v → proper v ≡ true
 proper-array shape none f v c p i h = filled-proper shape none (carrying f) v c p refl (carrying-proper f i) h
 proper-array shape (more x xs) f v c p i h = filled-proper shape (more x xs) unfilled v c p refl refl h
 
-proper-derived : (maker : Maker) (parts : Values) (v : Value) → is_made_of maker parts ≡ true → all_proper parts ≡ true → derived maker parts ≡ Ok v → proper v ≡ true
+proper-derived : (maker : Maker) (parts : Values) (v : Value) → is_made_of maker parts ≡ true → all_proper parts ≡ true → derived maker parts ≡ Ok v
+    → proper v ≡ true
 proper-derived maker parts v m p h =
     let w = within (Derived maker parts) v h in
     subst (λ u. proper u ≡ true) (sym w.itself)
     (and_from (is_within (Derived maker parts) && is_made_of maker parts) (all_proper parts)
     (and_from (is_within (Derived maker parts)) (is_made_of maker parts) (is-within (Derived maker parts) v w) m) p)
 
-proper-function : (block environment : ℕ) (operands : Values) (v : Value) → count operands ≤ 2 → all_proper operands ≡ true → block_function block environment operands ≡ Ok v → proper v ≡ true
+proper-function : (block environment : ℕ) (operands : Values) (v : Value) → count operands ≤ 2 → all_proper operands ≡ true
+    → block_function block environment operands ≡ Ok v → proper v ≡ true
 proper-function block environment operands v c p h =
     let w = within (Function block environment operands) v h in
     subst (λ u. proper u ≡ true) (sym w.itself)
     (and_from (is_within (Function block environment operands) && nat_le (count operands) 2) (all_proper operands)
-    (and_from (is_within (Function block environment operands)) (nat_le (count operands) 2) (is-within (Function block environment operands) v w) (le-leb (count operands) 2 c)) p)
+    (and_from (is_within (Function block environment operands)) (nat_le (count operands) 2) (is-within (Function block environment operands) v w)
+    (le-leb (count operands) 2 c)) p)
 
 pub made_is_within_limits : MadeIsWithinLimits
 made_is_within_limits = record {

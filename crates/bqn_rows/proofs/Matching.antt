@@ -1,29 +1,14 @@
--- Match is equality of data up to fills, and `same` is equality.
-use Rattle.std.proofs.Common.{◌≡◌, ℕ, Bool, true, false, ◌&&◌, nat_eq, ℤ, pos, List, [], ◌∷◌, Result, Ok, Err, refl, ap, ◌∙◌, subst, eqb-true, eq-eqb}
+-- Match finds two values equal where they are the same data.
+use Rattle.std.proofs.Common.{◌≡◌, Bool, true, false, nat_eq, Result, Ok, Err, refl, ap, ◌∙◌, subst, eqb-true, eq-eqb}
 use Rattle.std.specs.Cmp.{signed_Decides, int_eq_equiv, nat_eq_equiv}
 use Rattle.std.specs.Ordering.{int_eq}
 use Rattle.std.proofs.lemmas.Bool.{and_parts, and_from}
 use Rattle.bqn_base.specs.declared.fault.Fault.{Fault}
 use Rattle.bqn_base.specs.declared.fault.Fault.TheVariants.{NoCompare}
-use Rattle.bqn_rows.specs.Plain.{Maker, One, Two, Atop, Fork, Value, Number, Character, Array, Given, Derived, Function, Modifier1, Modifier2, Namespace, Values, none, more, Fill, unfilled, filled, kind, kind_number}
-use Rattle.bqn_rows.specs.Relations.{same_maker, same_shape, same, same_values, same_fill, first_unequal, where_alike, matching, all_matching}
-use Rattle.bqn_rows.specs.Laws.{is_data, all_data, bare, all_bare, MatchIsEquality, SameIsEquality}
-
--- ---- tests of shapes and makers
-
-pub shape-equal : (s t : List ℕ) → same_shape s t ≡ true → s ≡ t
-shape-equal [] [] h = refl
-shape-equal (n ∷ s) (m ∷ t) h = let p = and_parts (nat_eq n m) (same_shape s t) h in λ i. eqb-true n m p.0 i ∷ shape-equal s t p.1 i
-shape-equal _ _ h = cc
-
-pub shape-itself : (s : List ℕ) → same_shape s s ≡ true
-shape-itself [] = refl
-shape-itself (n ∷ s) = and_from (nat_eq n n) (same_shape s s) (eq-eqb n n refl) (shape-itself s)
-
-shape-symmetric : (s t : List ℕ) → same_shape s t ≡ same_shape t s
-shape-symmetric [] [] = refl
-shape-symmetric (n ∷ s) (m ∷ t) = λ i. nat_eq_equiv.symm n m i && shape-symmetric s t i
-shape-symmetric _ _ = refl
+use Rattle.bqn_rows.specs.Plain.{Value, Number, Character, Array, Given, Derived, Function, Modifier1, Modifier2, Namespace, Values, none, more, unfilled, kind, kind_number}
+use Rattle.bqn_rows.specs.Relations.{same_shape, same, first_unequal, where_alike, matching, all_matching}
+use Rattle.bqn_rows.specs.Laws.{is_data, all_data, is_data_fill, bare, all_bare, MatchIsSameData}
+use Rattle.bqn_rows.proofs.Identity.{shape-equal, shape-itself, shape-symmetric, shape_in, elements_in, head_of, rest_of, same-bare, bare-same}
 
 -- ---- what a decided comparison says
 
@@ -58,7 +43,7 @@ not_compared false h = cc
 -- ---- a match is an equality of data
 
 mutual
-  pub match-bare : (w x : Value) → matching w x ≡ Ok true → (is_data w ≡ true) × (bare w ≡ bare x)
+  pub match-bare : (w x : Value) → matching w x ≡ Ok true → (is_data (bare w) ≡ true) × (bare w ≡ bare x)
   match-bare (Number w) (Number x) h = (refl, ap Number ((signed_Decides w x).0 (inside (int_eq w x) h)))
   match-bare (Character w) (Character x) h = (refl, ap Character (eqb-true w x (inside (nat_eq w x) h)))
   match-bare (Array s ws f) (Array t xs g) h =
@@ -67,37 +52,17 @@ mutual
       (q.0, λ i. Array (shape-equal s t p.0 i) (q.1 i) unfilled)
   match-bare w x h = absurd (not_compared (nat_eq (kind_number (kind w)) (kind_number (kind x))) h)
 
-  all-bare : (ws xs : Values) → all_matching ws xs ≡ Ok true → (all_data ws ≡ true) × (all_bare ws ≡ all_bare xs)
+  all-bare : (ws xs : Values) → all_matching ws xs ≡ Ok true → (all_data (all_bare ws) ≡ true) × (all_bare ws ≡ all_bare xs)
   all-bare none none h = (refl, refl)
   all-bare (more w ws) (more x xs) h =
       let p = first (matching w x) (all_matching ws xs) h in
       let q = match-bare w x p.0 in
       let r = all-bare ws xs p.1 in
-      (and_from (is_data w) (all_data ws) q.0 r.0, λ i. more (q.1 i) (r.1 i))
+      (and_from (is_data (bare w)) (all_data (all_bare ws)) q.0 r.0, λ i. more (q.1 i) (r.1 i))
   all-bare _ _ h = cc
 
-number_in : Value → ℤ
-number_in (Number n) = n
-number_in _ = pos 0
-
-abbrev shape_in : Value → List ℕ
-shape_in (Array shape xs f) = shape
-shape_in _ = []
-
-abbrev elements_in : Value → Values
-elements_in (Array shape xs f) = xs
-elements_in _ = none
-
-abbrev head_of : Value → Values → Value
-head_of v none = v
-head_of v (more x xs) = x
-
-abbrev rest_of : Values → Values
-rest_of none = none
-rest_of (more x xs) = xs
-
 mutual
-  pub bare-match : (w x : Value) → is_data w ≡ true → bare w ≡ bare x → matching w x ≡ Ok true
+  pub bare-match : (w x : Value) → is_data (bare w) ≡ true → bare w ≡ bare x → matching w x ≡ Ok true
   bare-match (Number w) (Number x) d h = ap (λ (b : Bool). Ok b) ((signed_Decides w x).1 cc)
   bare-match (Character w) (Character x) d h = ap (λ (b : Bool). Ok b) (eq-eqb w x cc)
   bare-match (Array s ws f) (Array t xs g) d h =
@@ -106,12 +71,25 @@ mutual
       (bare-all ws xs d (ap elements_in h))
   bare-match _ _ d h = cc
 
-  bare-all : (ws xs : Values) → all_data ws ≡ true → all_bare ws ≡ all_bare xs → all_matching ws xs ≡ Ok true
+  bare-all : (ws xs : Values) → all_data (all_bare ws) ≡ true → all_bare ws ≡ all_bare xs → all_matching ws xs ≡ Ok true
   bare-all none none d h = refl
   bare-all (more w ws) (more x xs) d h =
-      let p = and_parts (is_data w) (all_data ws) d in
+      let p = and_parts (is_data (bare w)) (all_data (all_bare ws)) d in
       first-from (matching w x) (all_matching ws xs) (bare-match w x p.0 (ap (head_of (bare w)) h)) (bare-all ws xs p.1 (ap rest_of h))
   bare-all _ _ d h = cc
+
+mutual
+  data-bare : (w : Value) → is_data w ≡ true → is_data (bare w) ≡ true
+  data-bare (Number n) d = refl
+  data-bare (Character c) d = refl
+  data-bare (Array s xs f) d = all-data-bare xs (and_parts (is_data_fill f) (all_data xs) d).1
+  data-bare _ d = cc
+
+  all-data-bare : (ws : Values) → all_data ws ≡ true → all_data (all_bare ws) ≡ true
+  all-data-bare none d = refl
+  all-data-bare (more w ws) d =
+      let p = and_parts (is_data w) (all_data ws) d in
+      and_from (is_data (bare w)) (all_data (all_bare ws)) (data-bare w p.0) (all-data-bare ws p.1)
 
 mutual
   symmetric : (w x : Value) → matching w x ≡ matching x w
@@ -131,81 +109,16 @@ mutual
   all-symmetric (more w ws) (more x xs) = λ i. first_unequal (symmetric w x i) (all-symmetric ws xs i)
   all-symmetric _ _ = refl
 
-pub match_is_equality : MatchIsEquality
-match_is_equality = record {
-  same = λ w x. (match-bare w x, λ p. bare-match w x p.0 p.1);
+match-same : (w x : Value) → matching w x ≡ Ok true → (is_data (bare w) ≡ true) × (same w x ≡ true)
+match-same w x h = let p = match-bare w x h in (p.0, bare-same w x p.1)
+
+pub match_is_same_data : MatchIsSameData
+match_is_same_data = record {
+  exactly = λ w x. (match-same w x, λ p. bare-match w x p.0 (same-bare w x p.1));
+  of_data = λ w x d. (λ h. (match-same w x h).1, λ h. bare-match w x (data-bare w d) (same-bare w x h));
   reflexive = λ x d. bare-match x x d refl;
   symmetric = symmetric;
   transitive = λ v w x h k. let p = match-bare v w h in bare-match v x p.0 (p.1 ∙ (match-bare w x k).1);
 }
 
--- ---- the same value
-
-maker-equal : (m n : Maker) → same_maker m n ≡ true → m ≡ n
-maker-equal (One c) (One d) h = ap One (eqb-true c d h)
-maker-equal (Two c) (Two d) h = ap Two (eqb-true c d h)
-maker-equal Atop Atop h = refl
-maker-equal Fork Fork h = refl
-maker-equal _ _ h = cc
-
-maker-itself : (m : Maker) → same_maker m m ≡ true
-maker-itself (One c) = eq-eqb c c refl
-maker-itself (Two c) = eq-eqb c c refl
-maker-itself Atop = refl
-maker-itself Fork = refl
-
-mutual
-  pub same-equal : (w x : Value) → same w x ≡ true → w ≡ x
-  same-equal (Number w) (Number x) h = ap Number ((signed_Decides w x).0 h)
-  same-equal (Character w) (Character x) h = ap Character (eqb-true w x h)
-  same-equal (Array s ws f) (Array t xs g) h =
-      let p = and_parts (same_shape s t) (same_values ws xs && same_fill f g) h in
-      let q = and_parts (same_values ws xs) (same_fill f g) p.1 in
-      λ i. Array (shape-equal s t p.0 i) (values-equal ws xs q.0 i) (fill-equal f g q.1 i)
-  same-equal (Given c) (Given d) h = ap Given (eqb-true c d h)
-  same-equal (Derived m ps) (Derived n qs) h =
-      let p = and_parts (same_maker m n) (same_values ps qs) h in
-      λ i. Derived (maker-equal m n p.0 i) (values-equal ps qs p.1 i)
-  same-equal (Function b e ps) (Function c f qs) h =
-      let p = and_parts (nat_eq b c) (nat_eq e f && same_values ps qs) h in
-      let q = and_parts (nat_eq e f) (same_values ps qs) p.1 in
-      λ i. Function (eqb-true b c p.0 i) (eqb-true e f q.0 i) (values-equal ps qs q.1 i)
-  same-equal (Modifier1 b e) (Modifier1 c f) h = let p = and_parts (nat_eq b c) (nat_eq e f) h in λ i. Modifier1 (eqb-true b c p.0 i) (eqb-true e f p.1 i)
-  same-equal (Modifier2 b e) (Modifier2 c f) h = let p = and_parts (nat_eq b c) (nat_eq e f) h in λ i. Modifier2 (eqb-true b c p.0 i) (eqb-true e f p.1 i)
-  same-equal (Namespace e) (Namespace f) h = ap Namespace (eqb-true e f h)
-  same-equal _ _ h = cc
-
-  values-equal : (ws xs : Values) → same_values ws xs ≡ true → ws ≡ xs
-  values-equal none none h = refl
-  values-equal (more w ws) (more x xs) h = let p = and_parts (same w x) (same_values ws xs) h in λ i. more (same-equal w x p.0 i) (values-equal ws xs p.1 i)
-  values-equal _ _ h = cc
-
-  fill-equal : (f g : Fill) → same_fill f g ≡ true → f ≡ g
-  fill-equal unfilled unfilled h = refl
-  fill-equal (filled w) (filled x) h = ap filled (same-equal w x h)
-  fill-equal _ _ h = cc
-
-mutual
-  pub same-itself : (w : Value) → same w w ≡ true
-  same-itself (Number w) = (signed_Decides w w).1 refl
-  same-itself (Character w) = eq-eqb w w refl
-  same-itself (Array s ws f) = and_from (same_shape s s) (same_values ws ws && same_fill f f) (shape-itself s) (and_from (same_values ws ws) (same_fill f f) (values-itself ws) (fill-itself f))
-  same-itself (Given c) = eq-eqb c c refl
-  same-itself (Derived m ps) = and_from (same_maker m m) (same_values ps ps) (maker-itself m) (values-itself ps)
-  same-itself (Function b e ps) = and_from (nat_eq b b) (nat_eq e e && same_values ps ps) (eq-eqb b b refl) (and_from (nat_eq e e) (same_values ps ps) (eq-eqb e e refl) (values-itself ps))
-  same-itself (Modifier1 b e) = and_from (nat_eq b b) (nat_eq e e) (eq-eqb b b refl) (eq-eqb e e refl)
-  same-itself (Modifier2 b e) = and_from (nat_eq b b) (nat_eq e e) (eq-eqb b b refl) (eq-eqb e e refl)
-  same-itself (Namespace e) = eq-eqb e e refl
-
-  values-itself : (ws : Values) → same_values ws ws ≡ true
-  values-itself none = refl
-  values-itself (more w ws) = and_from (same w w) (same_values ws ws) (same-itself w) (values-itself ws)
-
-  fill-itself : (f : Fill) → same_fill f f ≡ true
-  fill-itself unfilled = refl
-  fill-itself (filled w) = same-itself w
-
-pub same_is_equality : SameIsEquality
-same_is_equality = record { equal = λ w x. (same-equal w x, λ e. subst (λ v. same w v ≡ true) e (same-itself w)) }
-
-pub ruleset matching_laws = (match_is_equality, same_is_equality)
+pub ruleset matching_laws = (match_is_same_data)

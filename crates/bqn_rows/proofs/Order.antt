@@ -86,7 +86,8 @@ alike-last v w x h m =
     let l = both-last v w e m in
     last v x l ∙ sym (last w x (sym e ∙ l))
 
-array-alike : (s t : List ℕ) (vs ws : Values) (f g : Fill) (x : Value) → ((xs : Values) → all_ordered vs xs ≡ all_ordered ws xs) → ordered (Array s vs f) x ≡ ordered (Array t ws g) x
+array-alike : (s t : List ℕ) (vs ws : Values) (f g : Fill) (x : Value) → ((xs : Values) → all_ordered vs xs ≡ all_ordered ws xs) → ordered (Array s vs f) x
+    ≡ ordered (Array t ws g) x
 array-alike s t vs ws f g (Array u xs k) each = each xs
 array-alike s t vs ws f g x each = refl
 
@@ -137,7 +138,8 @@ character-chain : (v w : ℕ) (x : Value) → nat_cmp v w ≡ Less → ordered (
 character-chain v w (Character x) h k = nat_cmp_total.trans v w x h k
 character-chain v w x h k = k
 
-array-chain : (s t : List ℕ) (vs ws : Values) (f g : Fill) (x : Value) → ((xs : Values) → all_ordered ws xs ≡ Less → all_ordered vs xs ≡ Less) → ordered (Array t ws g) x ≡ Less → ordered (Array s vs f) x ≡ Less
+array-chain : (s t : List ℕ) (vs ws : Values) (f g : Fill) (x : Value) → ((xs : Values) → all_ordered ws xs ≡ Less → all_ordered vs xs ≡ Less)
+    → ordered (Array t ws g) x ≡ Less → ordered (Array s vs f) x ≡ Less
 array-chain s t vs ws f g (Array u xs l) each k = each xs k
 array-chain s t vs ws f g x each k = k
 

@@ -1,12 +1,12 @@
 -- Prototypes are their own, as large as the value, and proper where the value is; fills too.
-use Rattle.std.proofs.Common.{◌≡◌, ◌+◌, ◌^◌, ℕ, suc, max, Bool, true, false, ◌&&◌, nat_le, List, Option, Some, None, refl, sym, ap, ◌∙◌, subst}
+use Rattle.std.proofs.Common.{◌≡◌, ◌≤◌, ◌+◌, ◌^◌, ℕ, pos, arith, suc, max, Bool, true, false, ◌&&◌, nat_le, List, Option, Some, None, refl, sym, ap, ◌∙◌, subst}
 use Rattle.std.proofs.lemmas.Bool.{and_parts, and_from}
-use Rattle.bqn_rows.specs.Plain.{Value, Number, Character, Array, Values, none, more, Fill, unfilled, filled, count}
-use Rattle.bqn_rows.specs.Relations.{weight, weights, height, heights, extent, same, prototype, prototypes, both, array_of, shared, common_prototype, carried, fill_of}
-use Rattle.bqn_rows.specs.Limits.{is_shape, is_within, is_same_as, is_fill, fits_elements, proper, all_proper, proper_fill}
+use Rattle.bqn_rows.specs.Plain.{Value, Number, Character, Array, Values, none, more, Fill, unfilled, count}
+use Rattle.bqn_rows.specs.Relations.{weight, weights, height, heights, extent, extents, identical, prototype, prototypes, both, array_of, shared, common_prototype, fill_of}
+use Rattle.bqn_rows.specs.Limits.{is_shape, is_within, is_identical_to, fits_elements, proper, all_proper}
 use Rattle.bqn_rows.specs.Laws.{IsFill, PrototypesAreFills}
-use Rattle.bqn_rows.proofs.Matching.{same-itself}
-use Rattle.bqn_rows.proofs.Proper.{whole, from-whole}
+use Rattle.bqn_rows.proofs.Identity.{identical-itself}
+use Rattle.bqn_rows.proofs.Proper.{whole, from-whole, may-carry}
 
 -- ---- what a prototype is made of
 
@@ -65,25 +65,35 @@ mutual
 record Alike (v p : Value) : Type 0 where
   weighs : weight p ≡ weight v
   stands : height p ≡ height v
+  nests : extent p ≤ extent v
 
 record AllAlike (vs ps : Values) : Type 0 where
   weighs : weights ps ≡ weights vs
   stands : heights ps ≡ heights vs
+  nests : extents ps ≤ extents vs
   counted : count ps ≡ count vs
 
 mutual
   alike : (v p : Value) → prototype v ≡ Some p → Alike v p
-  alike (Number n) p h = let e = some-value _ p h in record { weighs = ap weight e; stands = ap height e }
-  alike (Character c) p h = let e = some-value _ p h in record { weighs = ap weight e; stands = ap height e }
-  alike (Array shape none f) p h = let e = some-value _ p h in record { weighs = ap weight e; stands = ap height e }
+  alike (Number n) p h = let e = some-value (Number (pos 0)) p h in record { weighs = ap weight e; stands = ap height e; nests = omega (arith, ap extent e) }
+  alike (Character c) p h = let e = some-value (Character 32) p h in record { weighs = ap weight e; stands = ap height e; nests = omega (arith, ap extent e) }
+  alike (Array shape none f) p h =
+      let e = some-value (Array shape none f) p h in
+      record { weighs = ap weight e; stands = ap height e; nests = omega (arith, ap extent e) }
   alike (Array shape (more x xs) f) p h =
       let e = elements shape (both (prototype x) (prototypes xs)) p h in
       let a = all-alike (more x xs) e.rest e.found in
-      record { weighs = ap weight e.whole ∙ ap (λ n. 1 + n) a.weighs; stands = ap height e.whole ∙ ap suc a.stands }
+      record {
+        weighs = ap weight e.whole ∙ ap (λ n. 1 + n) a.weighs;
+        stands = ap height e.whole ∙ ap suc a.stands;
+        nests = omega (arith, ap extent e.whole, a.nests);
+      }
   alike _ p h = absurd cc
 
   all-alike : (vs ps : Values) → prototypes vs ≡ Some ps → AllAlike vs ps
-  all-alike none ps h = let e = some-values none ps h in record { weighs = ap weights e; stands = ap heights e; counted = ap count e }
+  all-alike none ps h =
+      let e = some-values none ps h in
+      record { weighs = ap weights e; stands = ap heights e; nests = omega (arith, ap extents e); counted = ap count e }
   all-alike (more x xs) ps h =
       let s = parts (prototype x) (prototypes xs) ps h in
       let a = alike x s.head s.first in
@@ -91,12 +101,17 @@ mutual
       record {
         weighs = ap weights s.whole ∙ (λ i. a.weighs i + b.weighs i);
         stands = ap heights s.whole ∙ (λ i. max (a.stands i) (b.stands i));
+        nests = omega (arith, ap extents s.whole, a.nests, b.nests);
         counted = ap count s.whole ∙ ap suc b.counted;
       }
 
+pub prototype-nests : (v p : Value) → prototype v ≡ Some p → extent p ≤ extent v
+prototype-nests v p h = (alike v p h).nests
+
 -- ---- it is proper
 
-within-alike : (shape : List ℕ) (xs rs : Values) (f g : Fill) → weights rs ≡ weights xs → heights rs ≡ heights xs → is_within (Array shape xs f) ≡ true → is_within (Array shape rs g) ≡ true
+within-alike : (shape : List ℕ) (xs rs : Values) (f g : Fill) → weights rs ≡ weights xs → heights rs ≡ heights xs → is_within (Array shape xs f) ≡ true
+    → is_within (Array shape rs g) ≡ true
 within-alike shape xs rs f g w t h = (λ i. (is_shape shape && nat_le (1 + w i) (2 ^ 22)) && nat_le (suc (t i)) 128) ∙ h
 
 unfilled-fits : (xs : Values) → fits_elements xs unfilled ≡ true
@@ -122,7 +137,8 @@ mutual
       (record {
         within = within-alike shape (more x xs) e.rest f unfilled l.weighs l.stands w.within;
         counted = w.counted ∙ sym l.counted;
-        parts = ap all_proper s.whole ∙ and_from (proper s.head) (all_proper s.rest) (proper-kept x s.head k.0 s.first) (all-proper-kept xs s.rest k.1 s.others);
+        parts = ap all_proper s.whole ∙ and_from (proper s.head) (all_proper s.rest) (proper-kept x s.head k.0 s.first)
+            (all-proper-kept xs s.rest k.1 s.others);
         fits = unfilled-fits e.rest;
         fill = refl;
       }))
@@ -138,7 +154,7 @@ mutual
 -- ---- fills
 
 shared-first : (o r : Option Value) (p : Value) → shared o r ≡ Some p → o ≡ Some p
-shared-first (Some v) (Some w) p h = at (same v w) h
+shared-first (Some v) (Some w) p h = at (identical v w) h
   where
     at : (b : Bool) → (elim b as (λ _. Option Value) [ true ↦ Some v | false ↦ None ]) ≡ Some p → Some v ≡ Some p
     at true k = k
@@ -146,24 +162,17 @@ shared-first (Some v) (Some w) p h = at (same v w) h
 shared-first (Some v) None p h = absurd cc
 shared-first None r p h = absurd cc
 
-common-first : (x : Value) (xs : Values) (p : Value) → common_prototype x xs ≡ Some p → prototype x ≡ Some p
+pub common-first : (x : Value) (xs : Values) (p : Value) → common_prototype x xs ≡ Some p → prototype x ≡ Some p
 common-first x none p h = h
 common-first x (more y ys) p h = shared-first (prototype x) (common_prototype y ys) p h
 
 prototype-fill : (v p : Value) → proper v ≡ true → prototype v ≡ Some p → IsFill (Some p)
-prototype-fill v p a h = (ap (is_same_as p) (own v p h) ∙ same-itself p, proper-kept v p a h)
-
-carried-fill : (f : Fill) (p : Value) → proper_fill f ≡ true → carried f ≡ Some p → IsFill (Some p)
-carried-fill unfilled p a h = absurd cc
-carried-fill (filled v) p a h =
-    let k = and_parts (is_fill v) (proper v) a in
-    let s = and_parts (is_same_as v (prototype v)) (nat_le (extent v) 128) k.0 in
-    let e = some-value v p h in
-    (subst (λ q. is_same_as q (prototype q) ≡ true) (sym e) s.0, proper-at v p e k.1)
+prototype-fill v p a h = (ap (is_identical_to p) (own v p h) ∙ identical-itself p, proper-kept v p a h)
 
 fill-kept : (v p : Value) → proper v ≡ true → fill_of v ≡ Some p → IsFill (Some p)
-fill-kept (Array shape none f) p a h = carried-fill f p (whole shape none f a).fill h
-fill-kept (Array shape (more x xs) f) p a h = prototype-fill x p (and_parts (proper x) (all_proper xs) (whole shape (more x xs) f a).parts).0 (common-first x xs p h)
+fill-kept (Array shape none f) p a h = subst IsFill h (may-carry f (whole shape none f a).fill)
+fill-kept (Array shape (more x xs) f) p a h = prototype-fill x p (and_parts (proper x) (all_proper xs) (whole shape (more x xs) f a).parts).0
+    (common-first x xs p h)
 fill-kept v p a h = prototype-fill v p a h
 
 pub prototypes_are_fills : PrototypesAreFills

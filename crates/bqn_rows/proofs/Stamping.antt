@@ -1,5 +1,5 @@
 -- A place is given once.
-use Rattle.std.proofs.Common.{◌≡◌, ℕ, zero, suc, Option, Some, None, refl, ap}
+use Rattle.std.proofs.Common.{◌≡◌, ℕ, zero, suc, Option, Some, None, refl}
 use Rattle.bqn_base.specs.declared.fault.Fault.{Fault}
 use Rattle.bqn_base.specs.declared.place.Place.{Place}
 use Rattle.bqn_base.specs.Places.{nowhere, first_of, on_line}
@@ -10,7 +10,8 @@ kept : (p q : Place) (f : Fault) → stamped p (record { fault = f; place = Some
 unfolding first_of
 kept p q f = refl
 
-given : (line column : ℕ) (f : Fault) → stamped (record { line = suc line; column = column }) (unplaced f) ≡ record { fault = f; place = Some (record { line = suc line; column = column }) }
+given : (line column : ℕ) (f : Fault) → stamped (record { line = suc line; column = column }) (unplaced f)
+    ≡ record { fault = f; place = Some (record { line = suc line; column = column }) }
 unfolding first_of
 given line column f = refl
 

@@ -65,7 +65,8 @@ same-length : (n m : ℕ) (ws xs : Values) → places (n ∷ []) ≡ count ws �
 same-length n m ws xs p q e = and_from (nat_eq n m) true (eq-eqb n m (omega arith)) refl
 
 mutual
-  tied : (w x : Value) → proper w ≡ true → proper x ≡ true → has_level (levels w) ≡ true → has_level (levels x) ≡ true → ordered w x ≡ Equal → matching w x ≡ Ok true
+  tied : (w x : Value) → proper w ≡ true → proper x ≡ true → has_level (levels w) ≡ true → has_level (levels x) ≡ true → ordered w x ≡ Equal → matching w x
+      ≡ Ok true
   tied (Number w) (Number x) pw px lw lx h = ap (λ (b : Bool). Ok b) (ap is_eq h)
   tied (Character w) (Character x) pw px lw lx h = ap (λ (b : Bool). Ok b) (eq-eqb w x (ranked w x Equal (sym h)))
   tied (Array (n ∷ []) ws f) (Array (m ∷ []) xs g) pw px lw lx h =
@@ -76,7 +77,8 @@ mutual
       (all-tied ws xs a.parts b.parts (raised-level (all_levels ws) lw) (raised-level (all_levels xs) lx) h)
   tied _ _ pw px lw lx h = cc
 
-  all-tied : (ws xs : Values) → all_proper ws ≡ true → all_proper xs ≡ true → has_level (all_levels ws) ≡ true → has_level (all_levels xs) ≡ true → all_ordered ws xs ≡ Equal → all_matching ws xs ≡ Ok true
+  all-tied : (ws xs : Values) → all_proper ws ≡ true → all_proper xs ≡ true → has_level (all_levels ws) ≡ true → has_level (all_levels xs) ≡ true
+      → all_ordered ws xs ≡ Equal → all_matching ws xs ≡ Ok true
   all-tied none none pw px lw lx h = refl
   all-tied (more w ws) (more x xs) pw px lw lx h =
       let p = and_parts (proper w) (all_proper ws) pw in

@@ -1,12 +1,13 @@
 -- What a call does, as far as the values alone tell it: BQN's pages on evaluation, on trains and on expressions. A call of a block
 -- asks the evaluation that it stands in; the form of such questions is this project's own.
-use Rattle.std.specs.Prelude.{ℕ, ◌-◌, nat_lt, true, false, pos, List, [], ◌∷◌, slice_get, Option, Some, None, Result, Ok, Err}
+use Rattle.std.specs.Prelude.{ℕ, ◌-◌, nat_lt, true, false, cond, pos, List, [], ◌∷◌, slice_get, Option, Some, None, Result, Ok, Err}
 use Rattle.bqn_base.specs.declared.fault.Fault.{Fault}
 use Rattle.bqn_base.specs.declared.fault.Fault.TheVariants.{Domain, NotCallable}
-use Rattle.bqn_rows.specs.Plain.{Atop, Fork, Value, Number, Character, Array, Given, Derived, Function, Modifier1, Modifier2, Namespace, Values, none, more, kind, kind_number}
-use Rattle.bqn_rows.specs.Primitives.{Primitive, primitives, monadic, dyadic, row_to_come}
+use Rattle.bqn_rows.specs.Plain.{Maker, One, Two, Atop, Fork, Value, Number, Character, Array, Given, Derived, Function, Modifier1, Modifier2, Namespace, Values, none, more, kind, kind_number}
+use Rattle.bqn_rows.specs.Arrays.{text_value}
+use Rattle.bqn_rows.specs.Primitives.{Primitive, primitives, monadic, dyadic}
 use Rattle.bqn_base.specs.Printed.{line}
-use Rattle.bqn_rows.specs.Shown.{shown}
+use Rattle.bqn_rows.specs.Shown.{shown, formatted, is_text}
 use Rattle.bqn_rows.specs.Raised.{Answer, unplaced, raised}
 
 -- what a block is run on: nothing, a right argument, or a left one too
@@ -71,13 +72,14 @@ pub data System : Type 0 where
 abbrev pub systems : List System
 systems = out ∷ show ∷ repr ∷ format ∷ type ∷ []
 
--- Whatever gives or takes an array is still to be defined.
+-- `•Out` writes a text and answers it; `•Show` writes the text of any value and answers the value; `•Repr` answers that text, and so does
+-- `•Fmt`, where the value is neither a text nor a character, which are their own texts
 abbrev pub system_call : System → Value → Call
+system_call out x = cond (is_text x) (Write (line (formatted x)) (λ u. answer x)) (fault Domain)
 system_call show x = Write (line (shown x)) (λ u. answer x)
+system_call repr x = known (text_value (shown x))
+system_call format x = cond (is_text x) (answer x) (known (text_value (formatted x)))
 system_call type x = answer (Number (pos (kind_number (kind x))))
-system_call out (Array shape xs f) = known row_to_come
-system_call out x = fault Domain
-system_call _ x = known row_to_come
 
 -- a system function has no left argument; a primitive modifier is no function
 abbrev pub called_system : Option System → Option Value → Value → Call
@@ -92,10 +94,14 @@ given_call code w x =
 
 -- ---- functions
 
--- What a modifier does with its operands, still to be defined: no source that has one is accepted so far. A function whose parts
--- are not those of its maker is no proper value.
-abbrev pub modifier_to_come : Call
-modifier_to_come = fault NotCallable
+-- What a given modifier does with its operands is still to be defined. No file opens this one, so nothing can be proved of it but that
+-- equal calls are equal; no source with a modifier is accepted so far.
+pub modifier_to_come : Maker → (operands : Values) → Option Value → Value → Call
+modifier_to_come maker operands w x = fault NotCallable
+
+-- a derived function without the parts that its maker asks for is no proper value
+abbrev pub improper : Call
+improper = fault NotCallable
 
 -- A number, a character, an array or a namespace is a constant function. In a train the right part is called first, and then the
 -- left one. A modifier can't be called.
@@ -105,9 +111,11 @@ call (Character c) w x = answer (Character c)
 call (Array shape xs f) w x = answer (Array shape xs f)
 call (Namespace environment) w x = answer (Namespace environment)
 call (Given code) w x = given_call code w x
+call (Derived (One code) (more f none)) w x = Inside (modifier_to_come (One code) (more f none) w x) End
+call (Derived (Two code) (more f (more g none))) w x = Inside (modifier_to_come (Two code) (more f (more g none)) w x) End
 call (Derived Atop (more f (more g none))) w x = Inside (call g w x >>= (λ y. call f None y)) End
 call (Derived Fork (more f (more g (more h none)))) w x = Inside (call h w x >>= (λ z. call f w x >>= (λ y. call g (Some y) z))) End
-call (Derived maker parts) w x = Inside modifier_to_come End
+call (Derived maker parts) w x = Inside improper End
 call (Function block environment operands) w x = Enter block environment operands (arguments w x) End
 call (Modifier1 block environment) w x = fault NotCallable
 call (Modifier2 block environment) w x = fault NotCallable

@@ -1,9 +1,16 @@
 pub mod Plain
+pub mod Stored
 pub mod Relations
 pub mod Limits
 pub mod Atoms
-pub mod Primitives
 pub mod Shown
+pub mod Arrays
+pub mod Pervasion
+pub mod Structure
+pub mod Selection
+pub mod Ordering
+pub mod Searching
+pub mod Primitives
 pub mod Raised
 pub mod Calls
 pub mod Running

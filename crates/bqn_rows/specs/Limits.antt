@@ -5,7 +5,7 @@ use Rattle.bqn_base.specs.declared.fault.Fault.{Fault}
 use Rattle.bqn_base.specs.declared.fault.Fault.TheVariants.{TooLarge, TooDeep}
 use Rattle.bqn_base.specs.Arithmetic.{fits}
 use Rattle.bqn_rows.specs.Plain.{Maker, One, Two, Atop, Fork, Value, Number, Character, Array, Given, Derived, Function, Modifier1, Modifier2, Namespace, Values, none, more, Fill, unfilled, filled, count, is_given, is_given_modifier1, is_given_modifier2}
-use Rattle.bqn_rows.specs.Relations.{weight, height, extent, same, prototype}
+use Rattle.bqn_rows.specs.Relations.{weight, height, extent, identical, prototype}
 
 -- the product of the axes
 abbrev pub places : List ℕ → ℕ
@@ -82,13 +82,13 @@ is_made_of Atop (more f (more g none)) = true
 is_made_of Fork (more f (more g (more h none))) = true
 is_made_of _ _ = false
 
-abbrev pub is_same_as : Value → Option Value → Bool
-is_same_as v None = false
-is_same_as v (Some w) = same v w
+abbrev pub is_identical_to : Value → Option Value → Bool
+is_identical_to v None = false
+is_identical_to v (Some w) = identical v w
 
 -- what a fill may be: its own prototype, of extent at most 128
 abbrev pub is_fill : Value → Bool
-is_fill v = is_same_as v (prototype v) && nat_le (extent v) 128
+is_fill v = is_identical_to v (prototype v) && nat_le (extent v) 128
 
 abbrev pub is_unfilled : Fill → Bool
 is_unfilled unfilled = true

@@ -67,4 +67,5 @@ seen (Ends q) = Asks q
 
 -- what a call asks after given replies is what it asks when it is run on them
 abbrev pub QuestionsAreOfTheCall : Type 0
-QuestionsAreOfTheCall = (f : Value) (w : Option Value) (x : Value) (room : ℕ) (replies : List Reply) → next f w x room replies ≡ seen (calls from_replies room (call f w x) replies)
+QuestionsAreOfTheCall = (f : Value) (w : Option Value) (x : Value) (room : ℕ) (replies : List Reply) → next f w x room replies
+    ≡ seen (calls from_replies room (call f w x) replies)

@@ -73,7 +73,7 @@ abbrev mutual
   fill_extent unfilled = 0
   fill_extent (filled v) = extent v
 
--- ---- the same value, fills included
+-- ---- identical and same values
 
 abbrev pub same_maker : Maker → Maker → Bool
 same_maker (One c) (One d) = nat_eq c d
@@ -87,29 +87,40 @@ same_shape [] [] = true
 same_shape (n ∷ s) (m ∷ t) = nat_eq n m && same_shape s t
 same_shape _ _ = false
 
--- the same value in all its parts
+-- equal in all parts, fills included
 abbrev mutual
+  pub identical : Value → Value → Bool
+  identical (Number w) (Number x) = int_eq w x
+  identical (Character w) (Character x) = nat_eq w x
+  identical (Array s ws f) (Array t xs g) = same_shape s t && (all_identical ws xs && identical_fill f g)
+  identical (Given c) (Given d) = nat_eq c d
+  identical (Derived m ps) (Derived n qs) = same_maker m n && all_identical ps qs
+  identical (Function b e ps) (Function c f qs) = nat_eq b c && (nat_eq e f && all_identical ps qs)
+  identical (Modifier1 b e) (Modifier1 c f) = nat_eq b c && nat_eq e f
+  identical (Modifier2 b e) (Modifier2 c f) = nat_eq b c && nat_eq e f
+  identical (Namespace e) (Namespace f) = nat_eq e f
+  identical _ _ = false
+
+  pub all_identical : Values → Values → Bool
+  all_identical none none = true
+  all_identical (more w ws) (more x xs) = identical w x && all_identical ws xs
+  all_identical _ _ = false
+
+  pub identical_fill : Fill → Fill → Bool
+  identical_fill unfilled unfilled = true
+  identical_fill (filled w) (filled x) = identical w x
+  identical_fill _ _ = false
+
+abbrev mutual
+  -- of equal type, shape and elements, whatever the fills of arrays; operations and namespaces only where they are identical
   pub same : Value → Value → Bool
-  same (Number w) (Number x) = int_eq w x
-  same (Character w) (Character x) = nat_eq w x
-  same (Array s ws f) (Array t xs g) = same_shape s t && (same_values ws xs && same_fill f g)
-  same (Given c) (Given d) = nat_eq c d
-  same (Derived m ps) (Derived n qs) = same_maker m n && same_values ps qs
-  same (Function b e ps) (Function c f qs) = nat_eq b c && (nat_eq e f && same_values ps qs)
-  same (Modifier1 b e) (Modifier1 c f) = nat_eq b c && nat_eq e f
-  same (Modifier2 b e) (Modifier2 c f) = nat_eq b c && nat_eq e f
-  same (Namespace e) (Namespace f) = nat_eq e f
-  same _ _ = false
+  same (Array s ws f) (Array t xs g) = same_shape s t && all_same ws xs
+  same w x = identical w x
 
-  pub same_values : Values → Values → Bool
-  same_values none none = true
-  same_values (more w ws) (more x xs) = same w x && same_values ws xs
-  same_values _ _ = false
-
-  pub same_fill : Fill → Fill → Bool
-  same_fill unfilled unfilled = true
-  same_fill (filled w) (filled x) = same w x
-  same_fill _ _ = false
+  pub all_same : Values → Values → Bool
+  all_same none none = true
+  all_same (more w ws) (more x xs) = same w x && all_same ws xs
+  all_same _ _ = false
 
 -- ---- prototypes and fills
 
@@ -135,12 +146,12 @@ abbrev mutual
   prototypes none = Some none
   prototypes (more x xs) = both (prototype x) (prototypes xs)
 
--- the first, where it is there and the other is the same
+-- the first, where it is there and the other is identical
 abbrev pub shared : Option Value → Option Value → Option Value
-shared (Some v) (Some w) = elim (same v w) [ true ↦ Some v | false ↦ None ]
+shared (Some v) (Some w) = elim (identical v w) [ true ↦ Some v | false ↦ None ]
 shared _ _ = None
 
--- the prototype of the elements, where all of them have the same one
+-- the prototype of the elements, where all of them have an identical one
 abbrev pub common_prototype : Value → Values → Option Value
 common_prototype x none = prototype x
 common_prototype x (more y ys) = shared (prototype x) (common_prototype y ys)

@@ -1,18 +1,18 @@
 //! What holds of the definitions themselves: nothing runs here.
 
-ghost use Rattle.bqn_rows.specs.Laws.{MatchIsEquality, SameIsEquality, OrderIsTotal, LevelsAreOfElements, MadeIsWithinLimits, PrototypesAreFills, PlacesStay};
+ghost use Rattle.bqn_rows.specs.Laws.{IdenticalIsEquality, MatchIsSameData, OrderIsTotal, LevelsAreOfElements, MadeIsWithinLimits, ProperByParts, ProperIsWithinLimits, PrototypesAreFills, RowsAreLists, FillsAreFollowed, PlacesStay};
 ghost use Rattle.bqn_rows.specs.Questions.{QuestionsAreOfTheCall};
 
-/// Match is equality of data up to fills: reflexive there, symmetric and transitive.
-#[tactic(auto, using(crate::proofs::Matching::matching_laws))]
-pub fn match_is_equality()
-    ensures { MatchIsEquality }
+/// Values are identical where they are equal, and the same where they are equal without their fills.
+#[tactic(auto, using(crate::proofs::Identity::identity_laws))]
+pub fn identical_is_equality()
+    ensures { IdenticalIsEquality }
 {}
 
-/// The test that a fill is the same is equality of values.
+/// Match finds two values equal where they are the same data; it is reflexive there, symmetric and transitive.
 #[tactic(auto, using(crate::proofs::Matching::matching_laws))]
-pub fn same_is_equality()
-    ensures { SameIsEquality }
+pub fn match_is_same_data()
+    ensures { MatchIsSameData }
 {}
 
 /// The order is total; of values with a level it tells apart exactly those that do not match.
@@ -31,6 +31,30 @@ pub fn levels_are_of_elements()
 #[tactic(auto, using(crate::proofs::Making::making_laws))]
 pub fn made_is_within_limits()
     ensures { MadeIsWithinLimits }
+{}
+
+/// An array is proper where its parts are, and what it carries may be carried.
+#[tactic(auto, using(crate::proofs::Proper::proper_laws))]
+pub fn proper_by_parts()
+    ensures { ProperByParts }
+{}
+
+/// Proper values keep the limits.
+#[tactic(auto, using(crate::proofs::Proper::proper_laws))]
+pub fn proper_is_within_limits()
+    ensures { ProperIsWithinLimits }
+{}
+
+/// Rows of values are lists, and fills are options.
+#[tactic(auto, using(crate::proofs::Rows::row_laws))]
+pub fn rows_are_lists()
+    ensures { RowsAreLists }
+{}
+
+/// The fills of fills are followed deep enough in the rows of arithmetic.
+#[tactic(auto, using(crate::proofs::Following::fill_laws))]
+pub fn fills_are_followed()
+    ensures { FillsAreFollowed }
 {}
 
 /// A prototype is its own prototype and as large as the value; it and the fill of a proper value may be carried.

@@ -3,7 +3,7 @@ use Rattle.std.proofs.Common.{◌≡◌, ℕ, pos, negsuc, Some, None, Ok, Err, 
 use lib.Chars.{codes}
 use Rattle.std.specs.Fmt.{digits}
 use Rattle.bqn_base.specs.declared.fault.Fault.TheVariants.{Domain, Overflow, NotWhole, DivideByZero, CharRange, NoCompare, NotCallable, TooDeep, NoBody}
-use Rattle.bqn_rows.specs.Plain.{Atop, Fork, Value, Number, Character, Given, Derived, Function, Modifier1, Namespace, none, more}
+use Rattle.bqn_rows.specs.Plain.{Atop, Fork, Value, Number, Character, Array, Given, Derived, Function, Modifier1, Namespace, none, more, unfilled, filled}
 use Rattle.bqn_rows.specs.Primitives as p
 use Rattle.bqn_rows.specs.Primitives.{Primitive, primitives, monadic, dyadic}
 use Rattle.bqn_base.specs.Signs.{primitive_signs}
@@ -349,13 +349,16 @@ block_without_room : next (Function 1 0 none) (Some (n 1)) (n 5) 0 [] ≡ Outcom
 block_without_room = refl
 
 -- a train of two blocks asks for the right one, then for the left one on its answer
-first_question : next (Derived Atop (more (Function 1 0 none) (more (Function 2 0 none) none))) (Some (n 1)) (n 5) 1000 [] ≡ Asks (Enter 2 0 none (two (n 1) (n 5)) 998)
+first_question : next (Derived Atop (more (Function 1 0 none) (more (Function 2 0 none) none))) (Some (n 1)) (n 5) 1000 []
+    ≡ Asks (Enter 2 0 none (two (n 1) (n 5)) 998)
 first_question = refl
 
-second_question : next (Derived Atop (more (Function 1 0 none) (more (Function 2 0 none) none))) (Some (n 1)) (n 5) 1000 (Ok (n 7) ∷ []) ≡ Asks (Enter 1 0 none (alone (n 7)) 998)
+second_question : next (Derived Atop (more (Function 1 0 none) (more (Function 2 0 none) none))) (Some (n 1)) (n 5) 1000 (Ok (n 7) ∷ [])
+    ≡ Asks (Enter 1 0 none (alone (n 7)) 998)
 second_question = refl
 
-fault_as_reply : next (Derived Atop (more (Function 1 0 none) (more (Function 2 0 none) none))) (Some (n 1)) (n 5) 1000 (Err (unplaced NoBody) ∷ []) ≡ Outcome (Err (unplaced NoBody))
+fault_as_reply : next (Derived Atop (more (Function 1 0 none) (more (Function 2 0 none) none))) (Some (n 1)) (n 5) 1000 (Err (unplaced NoBody) ∷ [])
+    ≡ Outcome (Err (unplaced NoBody))
 fault_as_reply = refl
 
 show_writes : next (Given 65) None (m 20) 0 [] ≡ Asks (Write (codes "¯21" ++ 10 ∷ []))
@@ -373,3 +376,41 @@ type_of_function = refl
 
 immediate_block_asks : walk (run_block 1 0 none) 5 (λ r rest. Outcome r) [] ≡ Asks (Enter 1 0 none no_arguments 4)
 immediate_block_asks = refl
+
+-- ---- system functions on arrays
+
+abbrev ab : Value
+ab = Array (2 ∷ []) (more a (more b none)) unfilled
+
+abbrev no_numbers : Value
+no_numbers = Array (0 ∷ []) none (filled (n 0))
+
+out_writes : next (Given 64) None ab 0 [] ≡ Asks (Write (codes "ab" ++ 10 ∷ []))
+out_writes = refl
+
+out_answers : next (Given 64) None ab 0 (Ok (n 0) ∷ []) ≡ Outcome (Ok ab)
+out_answers = refl
+
+out_of_empty_list : next (Given 64) None no_numbers 0 [] ≡ Asks (Write (10 ∷ []))
+out_of_empty_list = refl
+
+out_of_character : next (Given 64) None a 0 [] ≡ Outcome (Err (unplaced Domain))
+out_of_character = refl
+
+out_of_table : next (Given 64) None (Array (1 ∷ 1 ∷ []) (more a none) unfilled) 0 [] ≡ Outcome (Err (unplaced Domain))
+out_of_table = refl
+
+repr_of_character : next (Given 66) None a 0 [] ≡ Outcome (Ok (Array (3 ∷ []) (more (Character 39) (more a (more (Character 39) none))) unfilled))
+repr_of_character = refl
+
+format_of_empty_list : next (Given 67) None no_numbers 0 [] ≡ Outcome (Ok no_numbers)
+format_of_empty_list = refl
+
+format_of_character : next (Given 67) None a 0 [] ≡ Outcome (Ok (Array (1 ∷ []) (more a none) unfilled))
+format_of_character = refl
+
+format_of_plus : next (Given 67) None plus 0 [] ≡ Outcome (Ok (Array (1 ∷ []) (more (Character 43) none) unfilled))
+format_of_plus = refl
+
+type_of_array : next (Given 68) None ab 0 [] ≡ Outcome (Ok (n 0))
+type_of_array = refl
