@@ -1,3 +1,5 @@
+pub mod Fitting
+pub mod Options
 pub mod TreeItems
 pub mod found
 pub mod only

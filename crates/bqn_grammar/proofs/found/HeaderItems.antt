@@ -1,46 +1,23 @@
 -- The items of the tokens that fit the signs of a header's parts.
-use Rattle.std.proofs.Common.{◌≡◌, ℕ, true, List, [], ◌∷◌, ◌++◌, Option, Some, refl, ap, ◌∙◌, append_assoc}
+use Rattle.std.proofs.Common.{◌≡◌, true, List, [], ◌∷◌, ◌++◌, Option, Some, refl, ap, ◌∙◌, append_assoc}
 use Rattle.std.specs.Option.{option_map, option_and_then}
 use Rattle.bqn_syntax.specs.declared.token.Token.{Token}
-use Rattle.bqn_syntax.specs.declared.token.Kind.{Kind}
-use Rattle.bqn_syntax.specs.declared.token.Kind.TheVariants as kind
 use Rattle.bqn_syntax.specs.declared.sort.Bracket.TheVariants.{Angle}
 use Rattle.bqn_syntax.specs.declared.sort.Sort.{Sort}
 use Rattle.bqn_syntax.specs.declared.sort.Sort.TheVariants.{Opens, Closes, Separates, Joins, Skips, Stands}
 use Rattle.bqn_syntax.specs.grammar.Punctuation as punctuation
-use Rattle.bqn_syntax.specs.grammar.Sorts.{sort_of, punct_sort, is_word}
+use Rattle.bqn_syntax.specs.grammar.Sorts.{sort_of}
 use Rattle.bqn_syntax.specs.grammar.Items.{OfList, Item, Standing, Joining, piece_pattern}
 use Rattle.bqn_syntax.specs.grammar.Headers.{OpenList, open_list, and_item, end_of_piece, Lists, lists, list_closes, list_goes_on, header_step, header_items}
-use Rattle.bqn_syntax.specs.grammar.Spells.{Sign, Exact, Mark, Apart, Gap, Fits, exact, mark, apart, one_more, no_more, mark_at, pattern_signs, listed_signs, listed_more, joined_signs, joined_more}
-use Rattle.bqn_syntax.specs.grammar.Well.{IsLiteral, WellPattern, WellPatterns, WellJoined}
+use Rattle.bqn_syntax.specs.grammar.Spells.{Sign, Exact, Mark, Apart, Gap, Fits, one_more, no_more, mark_at, pattern_signs, listed_signs, listed_more, joined_signs, joined_more}
+use Rattle.bqn_syntax.specs.grammar.Well.{WellPattern, WellPatterns, WellJoined}
 use Rattle.bqn_syntax.specs.grammar.Trees.{Pattern, Name, Skip, Literal, ListPattern, StrandPattern, Patterns, no_patterns, and_patterns, patterns, Leaf, Nothing}
 use Rattle.bqn_grammar.proofs.TreeItems.{part_item, pattern_items, joined_items, joined_more_items}
-use Rattle.bqn_grammar.proofs.found.Patterns.{patterns_list}
+use Rattle.bqn_grammar.proofs.found.Patterns.{patterns_list, patterns_back}
 use Rattle.bqn_grammar.proofs.found.Pieces.{pattern_found, pattern_items_are_some}
+use Rattle.bqn_grammar.proofs.Fitting.{exact_is, mark_is, apart_is, mark_sort, word_stands, literal_stands}
 
 -- Tokens and signs.
-
-exact_is : {t : Token} {k : List Sign} {ts : List Token} → Fits (Exact t ∷ k) ts → (rest : List Token) × (ts ≡ t ∷ rest) × Fits k rest
-exact_is (exact {ts = rest} f) = (rest, refl, f)
-
-mark_is : {c : ℕ} {k : List Sign} {ts : List Token} → Fits (Mark c ∷ k) ts → (t : Token) × (rest : List Token) × (ts ≡ t ∷ rest) × (t.kind ≡ kind.Punct c) × Fits k rest
-mark_is (mark {t = t} {ts = rest} e f) = (t, rest, refl, e, f)
-
-apart_is : {k : List Sign} {ts : List Token} → Fits (Apart ∷ k) ts → (t : Token) × (rest : List Token) × (ts ≡ t ∷ rest) × (sort_of t.kind ≡ Separates) × Fits k rest
-apart_is (apart {t = t} {ts = rest} e f) = (t, rest, refl, e, f)
-
-mark_sort : (t : Token) (c : ℕ) (q : Sort) → t.kind ≡ kind.Punct c → punct_sort c ≡ q → sort_of t.kind ≡ q
-mark_sort t c q e p = ap sort_of e ∙ p
-
-word_stands : (j : Kind) → is_word j ≡ true → sort_of j ≡ Stands
-word_stands (kind.Word name r) e = refl
-word_stands _ e = absurd (cc)
-
-literal_stands : (j : Kind) → IsLiteral j → sort_of j ≡ Stands
-literal_stands (kind.Number z) e = refl
-literal_stands (kind.Char c) e = refl
-literal_stands (kind.Text s) e = refl
-literal_stands _ e = elim e [ ]
 
 -- Steps.
 
@@ -140,10 +117,6 @@ apart_goes pieces all items around outer k ts e f =
     let x = apart_is f in
     let g = gap_goes all around outer k x.1 x.4 in
     (g.0, g.1, ap (λ (l : List Token). header_items (lists (at_piece pieces items) (around ∷ outer)) l) x.2 ∙ separating pieces all items around outer x.0 x.1 e x.3 ∙ g.2)
-
-patterns_back : (qs : Patterns) → patterns (patterns_list qs) ≡ qs
-patterns_back no_patterns = refl
-patterns_back (and_patterns q qs) = ap (λ (r : Patterns). and_patterns q r) (patterns_back qs)
 
 nil_more : (all : List Pattern) → all ≡ all ++ []
 nil_more [] = refl

@@ -13,16 +13,16 @@ use Rattle.bqn_syntax.specs.grammar.Sorts.{sort_of, is_name, token_named}
 use Rattle.bqn_syntax.specs.grammar.Items.{Element, OfPart, OfList, Item, Standing, Joining, onto_first, group_pattern, groups, only_group}
 use Rattle.bqn_syntax.specs.grammar.Headers.{open_list, lists, header_items, own_tag, lone_token, token_tag, group_tag, is_left_operand, is_right_operand, left_operand, outermost_name, outermost_pattern, header_pattern, is_left, is_right, special_or, left_argument, right_argument, with_right, function_form, operand_form, without_left, left_of, or_left, header_form, header_in}
 use Rattle.bqn_syntax.specs.grammar.Spells.{Sign, Exact, Fits, done, token_signs, argument_signs, header_signs}
-use Rattle.bqn_syntax.specs.grammar.Well.{IsLiteral, WellPattern, WellJoined, IsNoStrand, IsOutermost, IsArgument, special, pattern, ArgumentFits, OperandFits, SelfFits, SidesFit, WellHeader}
+use Rattle.bqn_syntax.specs.grammar.Well.{IsLiteral, WellPattern, WellJoined, IsOutermost, IsArgument, special, pattern, ArgumentFits, OperandFits, SelfFits, SidesFit, WellHeader}
 use Rattle.bqn_syntax.specs.grammar.Trees.{Pattern, Name, Skip, Literal, ListPattern, StrandPattern, Patterns, no_patterns, and_patterns, Header, Leaf, Nothing}
 use Rattle.bqn_grammar.proofs.TreeItems.{part_item, pattern_items, joined_more_items}
-use Rattle.bqn_grammar.proofs.found.Patterns.{pattern_element, pattern_elements}
+use Rattle.bqn_grammar.proofs.found.Patterns.{pattern_element, pattern_elements, one_item}
 use Rattle.bqn_grammar.proofs.found.Pieces.{pattern_found}
 use Rattle.bqn_grammar.proofs.found.HeaderItems.{having, Goes, goes_nowhere, goes_on, goes_token, pattern_goes}
 
 -- The items of a header.
 
-abbrev argument_items : Option Pattern → List Item
+abbrev pub argument_items : Option Pattern → List Item
 argument_items None = []
 argument_items (Some q) = pattern_items q
 
@@ -158,10 +158,6 @@ alone : (x : Element) (rest : List Item) → NoJoiner rest → groups (Standing 
 alone x [] n = refl
 alone x (Joining ∷ is) n = elim n [ ]
 alone x _ n = refl
-
-one_item : (q : Pattern) → IsNoStrand q → pattern_items q ≡ Standing (pattern_element q) ∷ []
-one_item (StrandPattern qs) n = elim n [ ]
-one_item _ n = refl
 
 onto : (x : Element) (g : List Element) (o : Option (List (List Element))) → onto_first x (with_group g o) ≡ with_group (x ∷ g) o
 onto x g None = refl

@@ -18,7 +18,7 @@ pattern_element (Skip place) = OfPart (Nothing place)
 pattern_element (Literal t) = OfPart (Leaf t)
 pattern_element q = OfList q
 
-one_item : (q : Pattern) → IsNoStrand q → pattern_items q ≡ Standing (pattern_element q) ∷ []
+pub one_item : (q : Pattern) → IsNoStrand q → pattern_items q ≡ Standing (pattern_element q) ∷ []
 one_item (StrandPattern qs) n = elim n [ ]
 one_item _ n = refl
 
@@ -49,7 +49,7 @@ abbrev pub patterns_list : Patterns → List Pattern
 patterns_list no_patterns = []
 patterns_list (and_patterns q qs) = q ∷ patterns_list qs
 
-patterns_back : (qs : Patterns) → patterns (patterns_list qs) ≡ qs
+pub patterns_back : (qs : Patterns) → patterns (patterns_list qs) ≡ qs
 patterns_back no_patterns = refl
 patterns_back (and_patterns q qs) = ap (λ (r : Patterns). and_patterns q r) (patterns_back qs)
 

@@ -1,6 +1,5 @@
 -- Elements that are joined, and what they are: a pattern, or a term.
 use Rattle.std.proofs.Common.{◌≡◌, Bool, true, false, List, [], ◌∷◌, ◌++◌, Option, Some, None, refl, sym, ap, ◌∙◌, subst, append_assoc, append-nil}
-use Rattle.std.specs.Option.{option_map, option_and_then}
 use Rattle.bqn_syntax.specs.declared.token.Kind.{Kind}
 use Rattle.bqn_syntax.specs.declared.token.Kind.TheVariants as kind
 use Rattle.bqn_syntax.specs.declared.token.Token.{Token}
@@ -9,14 +8,7 @@ use Rattle.bqn_syntax.specs.grammar.Items.{Element, OfPart, OfList, Item, Standi
 use Rattle.bqn_syntax.specs.grammar.Well.{WellPart, WellParts, WellPattern, WellJoined, IsNoStrand, IsLiteral, AreTwo, AreTwoParts, IsElement}
 use Rattle.bqn_syntax.specs.grammar.Trees.{Pattern, Name, Skip, Literal, ListPattern, StrandPattern, patterns, Part, Leaf, Field, Strand, Nothing, parts}
 use Rattle.bqn_grammar.proofs.TreeItems.{part_item, part_items, parts_items, parts_more_items, pattern_items, joined_items, joined_more_items, IsOne, IsList, GoodElement}
-
-pub map_some : {A B : Type 0} (f : A → B) (o : Option A) (y : B) → option_map f o ≡ Some y → (x : A) × (o ≡ Some x) × (f x ≡ y)
-map_some f None y e = absurd (cc)
-map_some f (Some x) y e = (x, refl, (cc))
-
-pub and_then_some : {A B : Type 0} (f : A → Option B) (o : Option A) (y : B) → option_and_then f o ≡ Some y → (x : A) × (o ≡ Some x) × (f x ≡ Some y)
-and_then_some f None y e = absurd (cc)
-and_then_some f (Some x) y e = (x, refl, e)
+pub use Rattle.bqn_grammar.proofs.Options.{and_then_some, map_some}
 
 both_some : {A : Type 0} (o : Option A) (os : Option (List A)) (l : List A) → both o os ≡ Some l → (x : A) × (xs : List A) × (o ≡ Some x) × (os ≡ Some xs) × (l ≡ x ∷ xs)
 both_some None os l e = absurd (cc)

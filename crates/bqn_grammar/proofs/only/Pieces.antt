@@ -21,15 +21,15 @@ pub use Rattle.bqn_grammar.proofs.only.Patterns.{ReadPattern, pattern_only}
 
 -- Expressions.
 
-units_only : (items : List Item) (units : List Unit') → GoodItems false items → units_in items ≡ Some units → UnitsRead items units
-units_only items units g e =
+piece_units_only : (items : List Item) (units : List Unit') → GoodItems false items → units_in items ≡ Some units → UnitsRead items units
+piece_units_only items units g e =
     let m = and_then_some units_of (terms_of items) units e in
     units_only items m.0 units (terms_only items m.0 g m.1) m.2
 
 pub expression_only : (items : List Item) (e : Expr) → GoodItems false items → piece_expression items ≡ Some e → Read items e
 expression_only items e g h =
     let m = and_then_some expression (units_in items) e h in
-    let u = units_only items m.0 g m.1 in
+    let u = piece_units_only items m.0 g m.1 in
     let r = expression_read m.0 e u.well m.2 in
     record { written = r.written ∙ u.written; well = r.well }
 
@@ -93,7 +93,7 @@ statement_read units s w h = eval_read units s w h
 pub statement_only : (items : List Item) (s : Stmt) → GoodItems false items → piece_statement items ≡ Some s → ReadStmt items s × (is_predicate s ≡ false) × WellStmt false s
 statement_only items s g h =
     let m = and_then_some statement (units_in items) s h in
-    let u = units_only items m.0 g m.1 in
+    let u = piece_units_only items m.0 g m.1 in
     let k = statement_read m.0 s u.well m.2 in
     (record { written = k.read.written ∙ u.written; well = k.read.well }, k.plain, k.well)
 

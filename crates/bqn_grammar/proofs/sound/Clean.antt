@@ -1,19 +1,12 @@
 -- A piece that has a form has no wrong item.
 use Rattle.std.proofs.Common.{◌≡◌, Bool, List, [], ◌∷◌, ◌++◌, Option, Some, None, refl}
-use Rattle.std.specs.Option.{option_map, option_and_then}
+use Rattle.std.specs.Option.{option_and_then}
 use Rattle.bqn_syntax.specs.grammar.Items.{Element, Item, Standing, Joining, Wrong, Terms, reads, Between, put, puts, finished, terms_of, groups, onto_first, only_group, piece_pattern}
 use Rattle.bqn_syntax.specs.grammar.Units.{units_of}
 use Rattle.bqn_syntax.specs.grammar.Expressions.{expression, statement, predicate, units_in, piece_expression, piece_statement, piece_predicate}
 use Rattle.bqn_syntax.specs.grammar.Trees.{Pattern, Expr, Stmt}
 use Rattle.bqn_grammar.proofs.sound.OpenBrackets.{Clean}
-
-pub and_then_some : {A B : Type 0} (f : A → Option B) (m : Option A) (y : B) → option_and_then f m ≡ Some y → (x : A) × (m ≡ Some x) × (f x ≡ Some y)
-and_then_some f None y e = absurd (cc)
-and_then_some f (Some x) y e = (x, refl, e)
-
-pub map_some : {A B : Type 0} (f : A → B) (m : Option A) (y : B) → option_map f m ≡ Some y → (x : A) × (m ≡ Some x) × (f x ≡ y)
-map_some f None y e = absurd (cc)
-map_some f (Some x) y e = (x, refl, (cc))
+pub use Rattle.bqn_grammar.proofs.Options.{and_then_some, map_some}
 
 puts_clean : (items : List Item) (so out : Terms) → puts so items ≡ Some out → Clean items
 puts_clean [] so out e = tt

@@ -22,7 +22,7 @@ Arrows b k = (rest : List Token) → Fits k rest → arrow_ahead rest ≡ b
 abbrev pub Colons : Bool → List Sign → Type 0
 Colons b k = (rest : List Token) → Fits k rest → colon_ahead rest ≡ b
 
-looks_at : (q : Sort) (t : Token) (ts rest : List Token) → ts ≡ t ∷ rest → sort_of t.kind ≡ q → looks_of ts ≡ look q (looks_of rest)
+pub looks_at : (q : Sort) (t : Token) (ts rest : List Token) → ts ≡ t ∷ rest → sort_of t.kind ≡ q → looks_of ts ≡ look q (looks_of rest)
 looks_at q t ts rest is e = ap looks_of is ∙ ap (λ (s : Sort). look s (looks_of rest)) e
 
 -- an arrow

@@ -17,7 +17,7 @@ use Rattle.bqn_syntax.specs.grammar.Spells.{Sign, Mark, Gap, Fits, done, one_mor
 use Rattle.bqn_syntax.specs.grammar.Trees.{Pattern, Header, Expr, Block, Stmt, block, BodyTree, body, Stmts, no_stmts, and_stmts, stmts, Bodies, no_bodies, and_bodies, bodies}
 use Rattle.bqn_grammar.proofs.walked.Arrows.{Arrows, Colons, other_arrows, apart_arrows, gap_arrows}
 use Rattle.bqn_grammar.proofs.walked.Steps.{walk_step, having, clean, Many, clean_ends, gap_walks, separator_ends, Completes, Makes}
-use Rattle.bqn_grammar.proofs.walked.Patterns.{closing_colons, ends_colons, apart_colons, gap_colons}
+use Rattle.bqn_grammar.proofs.walked.Patterns.{closing_colons, ends_colons, apart_colons, gap_colons, body_start}
 use Rattle.bqn_grammar.proofs.walked.Lists.{Expressive, append_none}
 
 -- a program, or a body of a block
@@ -139,10 +139,6 @@ last_statement l next is first outer k all m n i c (one_more {t = t} {ts = ts} e
     let g = gap_walks next outer k ts n f in
     record { rest = g.0; inner = clean next; fits = g.1; walks = separator_ends l (clean next) is first outer t ts m c e ∙ g.2; ends = λ at. clean_ends next at n; inside = i }
 
--- where a body of a block begins, after these bodies
-abbrev pub start : Place → List BodyTree → OpenBracket
-start place so_far = record { inside = inside.Block; opened = place; first = None; items = []; expressions = []; targets = []; header = None; statements = []; done = so_far }
-
 -- the open bracket with a body
 abbrev pub filled : OpenBracket → BodyTree → OpenBracket
 filled l (body None ss) = stating l ss
@@ -151,10 +147,10 @@ filled l (body (Some h) ss) = stating (and_header h l) ss
 abbrev pub with_body : Place → List BodyTree → BodyTree → List BodyTree
 with_body place so_far b = so_far ++ b ∷ []
 
-pub bracket_is : (l : OpenBracket) (place : Place) (so_far : List BodyTree) → l.inside ≡ inside.Block → l.opened ≡ place → l.expressions ≡ [] → l.targets ≡ [] → (and_body l).done ≡ so_far → and_body l ≡ start place so_far
+pub bracket_is : (l : OpenBracket) (place : Place) (so_far : List BodyTree) → l.inside ≡ inside.Block → l.opened ≡ place → l.expressions ≡ [] → l.targets ≡ [] → (and_body l).done ≡ so_far → and_body l ≡ body_start place so_far
 bracket_is l place so_far i o e t d = go l.inside l.opened l.expressions l.targets (and_body l).done i o e t d
   where
-    go : (i : Inside) (o : Place) (e : List Expr) (t : List Pattern) (d : List BodyTree) → i ≡ inside.Block → o ≡ place → e ≡ [] → t ≡ [] → d ≡ so_far → record { inside = i; opened = o; first = None; items = []; expressions = e; targets = t; header = None; statements = []; done = d } ≡ start place so_far
+    go : (i : Inside) (o : Place) (e : List Expr) (t : List Pattern) (d : List BodyTree) → i ≡ inside.Block → o ≡ place → e ≡ [] → t ≡ [] → d ≡ so_far → record { inside = i; opened = o; first = None; items = []; expressions = e; targets = t; header = None; statements = []; done = d } ≡ body_start place so_far
     go i o e t d a b c f g = cc
 
 pub body_done : (l : OpenBracket) (h : Option Header) (ss : Stmts) (so_far : List BodyTree) → l.header ≡ h → l.statements ≡ [] → l.done ≡ so_far → (and_body (stating l ss)).done ≡ so_far ++ body h ss ∷ []
@@ -164,28 +160,28 @@ body_done l h ss so_far e s d =
     ∙ ap (λ (x : List Stmt). so_far ++ body h (stmts x) ∷ []) (stating_statements l ss ∙ ap (λ (x : List Stmt). x ++ list_of_stmts ss) s)
     ∙ ap (λ (x : Stmts). so_far ++ body h x ∷ []) (stmts_back ss)
 
-pub filled_done : (place : Place) (so_far : List BodyTree) (b : BodyTree) → (and_body (filled (start place so_far) b)).done ≡ so_far ++ b ∷ []
-filled_done place so_far (body None ss) = body_done (start place so_far) None ss so_far refl refl refl
-filled_done place so_far (body (Some h) ss) = body_done (and_header h (start place so_far)) (Some h) ss so_far refl refl refl
+pub filled_done : (place : Place) (so_far : List BodyTree) (b : BodyTree) → (and_body (filled (body_start place so_far) b)).done ≡ so_far ++ b ∷ []
+filled_done place so_far (body None ss) = body_done (body_start place so_far) None ss so_far refl refl refl
+filled_done place so_far (body (Some h) ss) = body_done (and_header h (body_start place so_far)) (Some h) ss so_far refl refl refl
 
-pub filled_inside : (place : Place) (so_far : List BodyTree) (b : BodyTree) → (filled (start place so_far) b).inside ≡ inside.Block
-filled_inside place so_far (body None ss) = stating_inside (start place so_far) ss
-filled_inside place so_far (body (Some h) ss) = stating_inside (and_header h (start place so_far)) ss
+pub filled_inside : (place : Place) (so_far : List BodyTree) (b : BodyTree) → (filled (body_start place so_far) b).inside ≡ inside.Block
+filled_inside place so_far (body None ss) = stating_inside (body_start place so_far) ss
+filled_inside place so_far (body (Some h) ss) = stating_inside (and_header h (body_start place so_far)) ss
 
-pub filled_opened : (place : Place) (so_far : List BodyTree) (b : BodyTree) → (filled (start place so_far) b).opened ≡ place
-filled_opened place so_far (body None ss) = stating_opened (start place so_far) ss
-filled_opened place so_far (body (Some h) ss) = stating_opened (and_header h (start place so_far)) ss
+pub filled_opened : (place : Place) (so_far : List BodyTree) (b : BodyTree) → (filled (body_start place so_far) b).opened ≡ place
+filled_opened place so_far (body None ss) = stating_opened (body_start place so_far) ss
+filled_opened place so_far (body (Some h) ss) = stating_opened (and_header h (body_start place so_far)) ss
 
-pub body_is_start : (place : Place) (so_far : List BodyTree) (b : BodyTree) → and_body (filled (start place so_far) b) ≡ start place (so_far ++ b ∷ [])
-body_is_start place so_far b = bracket_is (filled (start place so_far) b) place (so_far ++ b ∷ []) (filled_inside place so_far b) (filled_opened place so_far b) (expressions_of b) (targets_of b) (filled_done place so_far b)
+pub body_is_start : (place : Place) (so_far : List BodyTree) (b : BodyTree) → and_body (filled (body_start place so_far) b) ≡ body_start place (so_far ++ b ∷ [])
+body_is_start place so_far b = bracket_is (filled (body_start place so_far) b) place (so_far ++ b ∷ []) (filled_inside place so_far b) (filled_opened place so_far b) (expressions_of b) (targets_of b) (filled_done place so_far b)
   where
-    expressions_of : (b : BodyTree) → (filled (start place so_far) b).expressions ≡ []
-    expressions_of (body None ss) = stating_rest (start place so_far) ss
-    expressions_of (body (Some h) ss) = stating_rest (and_header h (start place so_far)) ss
+    expressions_of : (b : BodyTree) → (filled (body_start place so_far) b).expressions ≡ []
+    expressions_of (body None ss) = stating_rest (body_start place so_far) ss
+    expressions_of (body (Some h) ss) = stating_rest (and_header h (body_start place so_far)) ss
 
-    targets_of : (b : BodyTree) → (filled (start place so_far) b).targets ≡ []
-    targets_of (body None ss) = stating_targets (start place so_far) ss
-    targets_of (body (Some h) ss) = stating_targets (and_header h (start place so_far)) ss
+    targets_of : (b : BodyTree) → (filled (body_start place so_far) b).targets ≡ []
+    targets_of (body None ss) = stating_targets (body_start place so_far) ss
+    targets_of (body (Some h) ss) = stating_targets (and_header h (body_start place so_far)) ss
 
 abbrev pub list_of_bodies : Bodies → List BodyTree
 list_of_bodies no_bodies = []
@@ -197,13 +193,13 @@ bodies_back (and_bodies b bs) = ap (λ (x : Bodies). and_bodies b x) (bodies_bac
 
 -- what a block is once these bodies have followed
 abbrev pub MakesBlock : Place → List BodyTree → BodyTree → Bodies → Element → Type 0
-MakesBlock place so_far b no_bodies x = Makes (filled (start place so_far) b) x
+MakesBlock place so_far b no_bodies x = Makes (filled (body_start place so_far) b) x
 MakesBlock place so_far b (and_bodies v bs) x = MakesBlock place (so_far ++ b ∷ []) v bs x
 
 pub makes_block_from : (place : Place) (c : Class) (so_far : List BodyTree) (b : BodyTree) (bs all : Bodies) → bodies (so_far ++ b ∷ list_of_bodies bs) ≡ all → class_of (marks_in all) ≡ Some c → MakesBlock place so_far b bs (OfPart (Block (block place c all)))
 makes_block_from place c so_far b no_bodies all e w = λ at.
-    ap (λ (i : Inside). whole i at (filled (start place so_far) b)) (filled_inside place so_far b)
-    ∙ ap (λ (o : Place). block_part o (bodies (and_body (filled (start place so_far) b)).done) (class_of (marks_in (bodies (and_body (filled (start place so_far) b)).done)))) (filled_opened place so_far b)
+    ap (λ (i : Inside). whole i at (filled (body_start place so_far) b)) (filled_inside place so_far b)
+    ∙ ap (λ (o : Place). block_part o (bodies (and_body (filled (body_start place so_far) b)).done) (class_of (marks_in (bodies (and_body (filled (body_start place so_far) b)).done)))) (filled_opened place so_far b)
     ∙ ap (λ (x : Bodies). block_part place x (class_of (marks_in x))) (ap bodies (filled_done place so_far b) ∙ e)
     ∙ ap (λ (o : Option Class). block_part place all o) w
 makes_block_from place c so_far b (and_bodies v bs) all e w =

@@ -19,7 +19,7 @@ use Rattle.bqn_syntax.specs.grammar.Spells.{Sign, Exact, Mark, Apart, Gap, Fits,
 use Rattle.bqn_syntax.specs.grammar.Well.{IsArgument, special, pattern, ArgumentFits, WellHeader, header_depth, argument_depth, pattern_depth}
 use Rattle.bqn_syntax.specs.grammar.Trees.{Pattern, Name, Skip, Literal, ListPattern, StrandPattern, Patterns, no_patterns, and_patterns, Header, Leaf, BodyTree}
 use Rattle.bqn_grammar.proofs.TreeItems.{part_item, pattern_items}
-use Rattle.bqn_grammar.proofs.found.Headers.{header_found}
+use Rattle.bqn_grammar.proofs.found.Headers.{header_found, argument_items}
 use Rattle.bqn_grammar.proofs.walked.Looks.{arrow_ahead, colon_ahead, mark_is, mark_sort, passes_exact, token_passes, argument_stands, left_stands, right_stands, own_stands, self_stands, OperandsStand}
 use Rattle.bqn_grammar.proofs.walked.Arrows.{Arrows, Colons, exact_arrow_ahead, other_arrows, pattern_arrows}
 use Rattle.bqn_grammar.proofs.walked.Steps.{having, clean, Began, or_first_twice, Arrives, nothing_more, and_then, take_exact, walk_step}
@@ -120,10 +120,6 @@ only_exacts [] all done = refl
 only_exacts (t ∷ ts) all (exact {ts = others} f) = ap (λ (l : List Token). t ∷ l) (only_exacts ts others f)
 
 -- The items of a header.
-
-abbrev argument_items : Option Pattern → List Item
-argument_items None = []
-argument_items (Some q) = pattern_items q
 
 abbrev token_items : Option Token → List Item
 token_items None = []

@@ -11,13 +11,14 @@ use Rattle.bqn_syntax.specs.declared.sort.Sort.{Sort}
 use Rattle.bqn_syntax.specs.declared.sort.Sort.TheVariants.{Opens, Closes, Separates, Draws, Joins, Selects, Ends, Heads, Asks, Skips, Stands}
 use Rattle.bqn_syntax.specs.declared.sort.Tag.TheVariants as tag
 use Rattle.bqn_syntax.specs.grammar.Punctuation as punctuation
-use Rattle.bqn_syntax.specs.grammar.Sorts.{sort_of, punct_sort, tag as tag_of, is_word, is_name}
+use Rattle.bqn_syntax.specs.grammar.Sorts.{sort_of, punct_sort, tag as tag_of, is_name}
 use Rattle.bqn_syntax.specs.grammar.Looks.{Ahead, ahead, Looks, looks, look, looks_of, first_of, rest_of}
 use Rattle.bqn_syntax.specs.grammar.Headers.{own_tag, is_left_operand, is_right_operand, is_left, is_right}
 use Rattle.bqn_syntax.specs.grammar.Classes.{is_predicate}
-use Rattle.bqn_syntax.specs.grammar.Spells.{Sign, Exact, Mark, Apart, Gap, Fits, exact, mark, apart, one_more, no_more, arrow_code, mark_at, pattern_signs, listed_signs, listed_more, joined_signs, joined_more, token_signs, argument_signs, header_signs, target_signs, name_signs, expr_signs, part_signs, steps_signs, step_signs, derived_signs, uses_signs, use_signs, deriveds_signs, exprs_signs, exprs_more, parts_signs, parts_more, stmt_signs, stmts_signs, body_signs, bodies_signs, bodies_more, block_signs}
-use Rattle.bqn_syntax.specs.grammar.Well.{IsLiteral, WellPattern, WellPatterns, WellJoined, IsArgument, special, pattern, ArgumentFits, OperandFits, SelfFits, WellHeader, TargetsFit, NamesFit, WellExpr, WellPart, WellSteps, WellStep, WellDerived, WellUses, WellUse, WellDeriveds, WellExprs, WellParts, WellStmt, WellStmts, WellBody, WellBodies, WellBlock}
+use Rattle.bqn_syntax.specs.grammar.Spells.{Sign, Exact, Mark, Apart, Gap, Fits, one_more, no_more, arrow_code, mark_at, pattern_signs, listed_signs, listed_more, joined_signs, joined_more, token_signs, argument_signs, header_signs, target_signs, name_signs, expr_signs, part_signs, steps_signs, step_signs, derived_signs, uses_signs, use_signs, deriveds_signs, exprs_signs, exprs_more, parts_signs, parts_more, stmt_signs, stmts_signs, body_signs, bodies_signs, bodies_more, block_signs}
+use Rattle.bqn_syntax.specs.grammar.Well.{WellPattern, WellPatterns, WellJoined, IsArgument, special, pattern, ArgumentFits, OperandFits, SelfFits, WellHeader, TargetsFit, NamesFit, WellExpr, WellPart, WellSteps, WellStep, WellDerived, WellUses, WellUse, WellDeriveds, WellExprs, WellParts, WellStmt, WellStmts, WellBody, WellBodies, WellBlock}
 use Rattle.bqn_syntax.specs.grammar.Trees.{Pattern, Name, Skip, Literal, ListPattern, StrandPattern, Patterns, no_patterns, and_patterns, Header, Expr, Value, Train, Modifier, Use, One, Two, Part, Leaf, Elements, Merge, Paren, Block, Field, Strand, Nothing, Step, Apply, Assign, Modify, Stmt, Eval, Predicate, Export, BlockTree, block, BodyTree, body, Derived, derived, none, some, Exprs, no_exprs, and_exprs, Uses, no_uses, and_uses, Parts, no_parts, and_parts, Steps, no_steps, and_steps, Stmts, no_stmts, and_stmts, Bodies, no_bodies, and_bodies, Deriveds, no_deriveds, and_deriveds}
+pub use Rattle.bqn_grammar.proofs.Fitting.{exact_is, mark_is, apart_is, mark_sort, word_stands, literal_stands}
 
 -- what stands ahead of these tokens
 abbrev pub arrow_ahead : List Token → Bool
@@ -96,15 +97,6 @@ inner_colon Ends l w = elim w [ ]
 inner_colon Heads l w = elim w [ ]
 inner_colon Asks l w = elim w [ ]
 
-pub exact_is : {t : Token} {k : List Sign} {ts : List Token} → Fits (Exact t ∷ k) ts → (rest : List Token) × (ts ≡ t ∷ rest) × Fits k rest
-exact_is (exact {ts = rest} f) = (rest, refl, f)
-
-pub mark_is : {c : ℕ} {k : List Sign} {ts : List Token} → Fits (Mark c ∷ k) ts → (t : Token) × (rest : List Token) × (ts ≡ t ∷ rest) × (t.kind ≡ kind.Punct c) × Fits k rest
-mark_is (mark {t = t} {ts = rest} e f) = (t, rest, refl, e, f)
-
-pub apart_is : {k : List Sign} {ts : List Token} → Fits (Apart ∷ k) ts → (t : Token) × (rest : List Token) × (ts ≡ t ∷ rest) × (sort_of t.kind ≡ Separates) × Fits k rest
-apart_is (apart {t = t} {ts = rest} e f) = (t, rest, refl, e, f)
-
 passes_one : (q : Sort) (t : Token) {k : List Sign} (ts rest : List Token) → ts ≡ t ∷ rest → sort_of t.kind ≡ q → IsInner q → Fits k rest → Passes k ts
 passes_one q t ts rest is e w f = record {
   rest = rest;
@@ -115,9 +107,6 @@ passes_one q t ts rest is e w f = record {
 
 pub passes_exact : (q : Sort) (t : Token) (k : List Sign) (ts : List Token) → sort_of t.kind ≡ q → IsInner q → Fits (Exact t ∷ k) ts → Passes k ts
 passes_exact q t k ts e w f = let x = exact_is f in passes_one q t ts x.0 x.1 e w x.2
-
-pub mark_sort : (t : Token) (c : ℕ) (q : Sort) → t.kind ≡ kind.Punct c → punct_sort c ≡ q → sort_of t.kind ≡ q
-mark_sort t c q e p = ap sort_of e ∙ p
 
 pub passes_mark : (q : Sort) (c : ℕ) (k : List Sign) (ts : List Token) → punct_sort c ≡ q → IsInner q → Fits (Mark c ∷ k) ts → Passes k ts
 passes_mark q c k ts p w f = let x = mark_is f in passes_one q x.0 ts x.1 x.2 (mark_sort x.0 c q x.3 p) w x.4
@@ -208,19 +197,9 @@ behind_opening b c k inner p x =
 
 -- Tokens of trees.
 
-pub word_stands : (j : Kind) → is_word j ≡ true → sort_of j ≡ Stands
-word_stands (kind.Word name r) e = refl
-word_stands _ e = absurd (cc)
-
 pub name_stands : (r : _) (j : Kind) → is_name r j ≡ true → sort_of j ≡ Stands
 name_stands r (kind.Word name q) e = refl
 name_stands r _ e = absurd (cc)
-
-pub literal_stands : (j : Kind) → IsLiteral j → sort_of j ≡ Stands
-literal_stands (kind.Number z) e = refl
-literal_stands (kind.Char c) e = refl
-literal_stands (kind.Text s) e = refl
-literal_stands _ e = elim e [ ]
 
 -- Patterns.
 

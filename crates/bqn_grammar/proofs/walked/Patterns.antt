@@ -6,13 +6,12 @@ use Rattle.bqn_base.specs.declared.place.Place.{Place}
 use Rattle.bqn_syntax.specs.declared.token.Token.{Token}
 use Rattle.bqn_syntax.specs.declared.sort.Bracket.{Bracket}
 use Rattle.bqn_syntax.specs.declared.sort.Bracket.TheVariants.{Angle}
-use Rattle.bqn_syntax.specs.declared.sort.Sort.{Sort}
 use Rattle.bqn_syntax.specs.declared.sort.Sort.TheVariants.{Opens, Closes, Separates, Joins, Ends, Heads, Asks, Skips, Stands}
 use Rattle.bqn_syntax.specs.declared.sort.Inside.{Inside}
 use Rattle.bqn_syntax.specs.declared.sort.Inside.TheVariants as inside
 use Rattle.bqn_syntax.specs.grammar.Punctuation as punctuation
-use Rattle.bqn_syntax.specs.grammar.Sorts.{sort_of, punct_sort}
-use Rattle.bqn_syntax.specs.grammar.Looks.{Ahead, Looks, looks_of, look, behind_group}
+use Rattle.bqn_syntax.specs.grammar.Sorts.{punct_sort}
+use Rattle.bqn_syntax.specs.grammar.Looks.{Ahead, Looks, behind_group}
 use Rattle.bqn_syntax.specs.grammar.Items.{Element, OfList, Item, Standing, Joining, piece_pattern}
 use Rattle.bqn_syntax.specs.grammar.Parsing.{OpenBracket, OpenBrackets, open_brackets, fresh, or_first, and_item, and_target, well, judged, ended_by, list_inside, is_first_piece, inside_of, closes, whole, walk}
 use Rattle.bqn_syntax.specs.grammar.Spells.{Sign, Mark, Apart, Gap, Fits, apart, one_more, no_more, mark_at, pattern_signs, listed_signs, listed_more, joined_signs, joined_more}
@@ -21,17 +20,15 @@ use Rattle.bqn_syntax.specs.grammar.Trees.{Pattern, Name, Skip, Literal, ListPat
 use Rattle.bqn_grammar.proofs.TreeItems.{part_item, pattern_items, joined_items, joined_more_items}
 use Rattle.bqn_grammar.proofs.found.Pieces.{pattern_found, pattern_items_are_some}
 use Rattle.bqn_grammar.proofs.walked.Looks.{mark_is, mark_sort, word_stands, literal_stands, behind_opening, list_crosses, joined_more_passes}
-use Rattle.bqn_grammar.proofs.walked.Arrows.{Arrows, Colons, other_arrows, apart_arrows, gap_arrows, joined_arrows}
+use Rattle.bqn_grammar.proofs.walked.Arrows.{Arrows, Colons, other_arrows, apart_arrows, gap_arrows, joined_arrows, looks_at}
 use Rattle.bqn_grammar.proofs.walked.Steps.{having, clean, Arrives, nothing_more, and_then, take_exact, take_mark, Many, gap_walks, Completes, apart_walks, Makes, close_after, close_empty, open_step, group_arrives}
+use Rattle.bqn_grammar.proofs.found.Patterns.{patterns_list, patterns_back}
 
 -- where a body of a block begins, after these bodies
 abbrev pub body_start : Place → List BodyTree → OpenBracket
 body_start place so_far = record { inside = inside.Block; opened = place; first = None; items = []; expressions = []; targets = []; header = None; statements = []; done = so_far }
 
 -- Colons.
-
-looks_at : (q : Sort) (t : Token) (ts rest : List Token) → ts ≡ t ∷ rest → sort_of t.kind ≡ q → looks_of ts ≡ look q (looks_of rest)
-looks_at q t ts rest is e = ap looks_of is ∙ ap (λ (s : Sort). look s (looks_of rest)) e
 
 pub closing_colons : (b : Bracket) (c : ℕ) (k : List Sign) → punct_sort c ≡ Closes b → Colons false (Mark c ∷ k)
 closing_colons b c k p ts f = let m = mark_is f in ap (λ (l : Looks). l.here.colon) (looks_at (Closes b) m.0 ts m.1 m.2 (mark_sort m.0 c (Closes b) m.3 p))
@@ -119,25 +116,17 @@ abbrev pub targeting : OpenBracket → Patterns → OpenBracket
 targeting l no_patterns = clean l
 targeting l (and_patterns q qs) = targeting (and_target q l) qs
 
-abbrev list_of : Patterns → List Pattern
-list_of no_patterns = []
-list_of (and_patterns q qs) = q ∷ list_of qs
-
-listed_back : (qs : Patterns) → patterns (list_of qs) ≡ qs
-listed_back no_patterns = refl
-listed_back (and_patterns q qs) = ap (λ (x : Patterns). and_patterns q x) (listed_back qs)
-
 targeting_inside : (l : OpenBracket) (qs : Patterns) → (targeting l qs).inside ≡ l.inside
 targeting_inside l no_patterns = refl
 targeting_inside l (and_patterns q qs) = targeting_inside (and_target q l) qs
 
-targeting_targets : (l : OpenBracket) (qs : Patterns) → (targeting l qs).targets ≡ l.targets ++ list_of qs
+targeting_targets : (l : OpenBracket) (qs : Patterns) → (targeting l qs).targets ≡ l.targets ++ patterns_list qs
 targeting_targets l no_patterns = nil l.targets
   where
     nil : (all : List Pattern) → all ≡ all ++ []
     nil [] = refl
     nil (x ∷ xs) = ap (λ (y : List Pattern). x ∷ y) (nil xs)
-targeting_targets l (and_patterns q qs) = targeting_targets (and_target q l) qs ∙ append_assoc l.targets (q ∷ []) (list_of qs)
+targeting_targets l (and_patterns q qs) = targeting_targets (and_target q l) qs ∙ append_assoc l.targets (q ∷ []) (patterns_list qs)
 
 whole_patterns : (j : Inside) (place : Place) (l : OpenBracket) → IsPatternInside j → whole j place l ≡ Ok (OfList (ListPattern (patterns l.targets)))
 whole_patterns inside.Pattern place l p = refl
@@ -154,7 +143,7 @@ makes_patterns j place qs p at =
     ap (λ (i : Inside). whole i at l) (targeting_inside (fresh j place) qs)
     ∙ whole_patterns j at l p
     ∙ ap (λ (all : List Pattern). Ok (OfList (ListPattern (patterns all)))) (targeting_targets (fresh j place) qs)
-    ∙ ap (λ (all : Patterns). Ok (OfList (ListPattern all))) (listed_back qs)
+    ∙ ap (λ (all : Patterns). Ok (OfList (ListPattern all))) (patterns_back qs)
 
 judged_pattern : (j : Inside) (place : Place) (l : OpenBracket) (q : Pattern) → IsPatternInside j → piece_pattern (literals_in j) l.items ≡ Some q → judged j place l ≡ Ok (and_target q l)
 judged_pattern inside.Pattern place l q p e = ap (λ (o : Option Pattern). well place and_target o l) e

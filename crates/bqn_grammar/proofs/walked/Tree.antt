@@ -27,9 +27,9 @@ use Rattle.bqn_grammar.proofs.walked.Headers.{header_is_walked}
 use Rattle.bqn_grammar.proofs.walked.Looks.{then_cross, crosses_gap, exact_is, mark_is, mark_sort, name_stands, behind_opening, names_stand, arrow_sort, steps_passes, exprs_crosses}
 use Rattle.bqn_grammar.proofs.walked.Arrows.{Arrows, Colons, drawn_arrows, other_arrows, apart_arrows, name_arrows, part_arrows, parts_arrows, derived_arrows, deriveds_arrows}
 use Rattle.bqn_grammar.proofs.walked.Steps.{walk_step, having, clean, Arrives, nothing_more, and_then, take_exact, take_mark, clean_ends, gap_walks, Completes, apart_walks, Makes, close_step, close_after, close_empty, open_step, group_arrives}
-use Rattle.bqn_grammar.proofs.walked.Patterns.{closing_colons, asks_colons, apart_colons, closed_gap_colons, closed_gap_arrows, ended_some, pattern_arrives}
+use Rattle.bqn_grammar.proofs.walked.Patterns.{closing_colons, asks_colons, apart_colons, closed_gap_colons, closed_gap_arrows, ended_some, pattern_arrives, body_start}
 use Rattle.bqn_grammar.proofs.walked.Lists.{Expressive, list_chosen, pattern_chosen, Listing, many_listing, expressive_listing, collecting, makes_elements, makes_merge, Follows, calm_follows, DerivedFollows, first_follows, UsesFollow, uses_of, one_follows, two_follows, rest_follow_one, rest_follow_two, names_colons, part_colons, parts_more_colons, uses_colons, derived_colons, deriveds_colons, step_colons, drawn_colons, step_arrows, names_arrive, targets_arrive}
-use Rattle.bqn_grammar.proofs.walked.Bodies.{StatedFrom, Running, many_running, expressive_running, same_running, block_running, stating, stmts_back, stating_statements, Stated, last_statement, start, filled, with_body, body_is_start, MakesBlock, makes_block, semicolon_walks, after_body_arrows, after_body_colons, after_stmt_arrows, after_stmt_colons, nil_arrows, nil_colons, at_end}
+use Rattle.bqn_grammar.proofs.walked.Bodies.{StatedFrom, Running, many_running, expressive_running, same_running, block_running, stating, stmts_back, stating_statements, Stated, last_statement, filled, with_body, body_is_start, MakesBlock, makes_block, semicolon_walks, after_body_arrows, after_body_colons, after_stmt_arrows, after_stmt_colons, nil_arrows, nil_colons, at_end}
 
 judged_expression : (i : Inside) (place : Place) (l : OpenBracket) (e : Expr) → Listing i → piece_expression l.items ≡ Some e → judged i place l ≡ Ok (and_expression e l)
 judged_expression inside.List place l e p d = ap (λ (o : Option Expr). well place and_expression o l) d
@@ -239,25 +239,25 @@ mutual
       let around = having so.inner [] (or_first so.inner.first ts) in
       let s = body_arrives b place [] (around ∷ so.outer) (bodies_more bs (Mark punctuation.close_curly ∷ k)) m.0 w.2.0 (omega (arith, le-max_left (body_depth b) (bodies_depth bs))) (after_body_arrows bs k) (after_body_colons bs k) m.2 in
       let r = bodies_more_arrive bs b place [] around (OfPart (Block (block place c (and_bodies b bs)))) so.outer k s.rest s.inner w.2.1 (omega (arith, le-max_right (body_depth b) (bodies_depth bs))) s.ends s.inside (makes_block place c b bs w.1) s.fits in
-      group_arrives so (OfPart (Block (block place c (and_bodies b bs)))) k ts r.0 (open_brackets (start place []) (around ∷ so.outer)) m.0 o (s.walks ∙ r.2) r.1
+      group_arrives so (OfPart (Block (block place c (and_bodies b bs)))) k ts r.0 (open_brackets (body_start place []) (around ∷ so.outer)) m.0 o (s.walks ∙ r.2) r.1
 
   -- a body, from where it begins, up to its end
-  body_arrives : (b : BodyTree) (place : Place) (so_far : List BodyTree) (outer : List OpenBracket) (k : List Sign) (ts : List Token) → WellBody b → length outer + body_depth b ≤ 128 → Arrows false k → Colons false k → Fits (body_signs b k) ts → Stated (start place so_far) (filled (start place so_far) b) outer k ts
-  body_arrives (body None ss) place so_far outer k ts w d a y f = stmts_arrive ss true (start place so_far) outer k ts tt w.1 (omega (arith, le-max_right 0 (stmts_depth ss))) a y f
+  body_arrives : (b : BodyTree) (place : Place) (so_far : List BodyTree) (outer : List OpenBracket) (k : List Sign) (ts : List Token) → WellBody b → length outer + body_depth b ≤ 128 → Arrows false k → Colons false k → Fits (body_signs b k) ts → Stated (body_start place so_far) (filled (body_start place so_far) b) outer k ts
+  body_arrives (body None ss) place so_far outer k ts w d a y f = stmts_arrive ss true (body_start place so_far) outer k ts tt w.1 (omega (arith, le-max_right 0 (stmts_depth ss))) a y f
   body_arrives (body (Some h) ss) place so_far outer k ts w d a y f =
-      let l = start place so_far in
+      let l = body_start place so_far in
       let g = gap_walks l outer (header_signs h (Mark punctuation.colon ∷ stmts_signs true ss (Gap ∷ k))) ts tt f in
       let x = header_is_walked h place so_far outer (stmts_signs true ss (Gap ∷ k)) g.0 w.0 (omega (arith, le-max_left (header_depth (Some h)) (stmts_depth ss))) g.1 in
       let s = stmts_arrive ss true (and_header h l) outer k x.0 tt w.1 (omega (arith, le-max_right (header_depth (Some h)) (stmts_depth ss))) a y x.1 in
       record { rest = s.rest; inner = s.inner; fits = s.fits; walks = g.2 ∙ x.2 ∙ s.walks; ends = s.ends; inside = s.inside }
 
-  bodies_more_arrive : (bs : Bodies) (b : BodyTree) (place : Place) (so_far : List BodyTree) (around : OpenBracket) (x : Element) (outer : List OpenBracket) (k : List Sign) (ts : List Token) (last : OpenBracket) → WellBodies bs → length outer + (1 + bodies_depth bs) ≤ 128 → ((at : Place) → ended at last ≡ Ok (filled (start place so_far) b)) → last.inside ≡ inside.Block → MakesBlock place so_far b bs x → Fits (bodies_more bs (Mark punctuation.close_curly ∷ k)) ts → (rest : List Token) × Fits k rest × (walk (open_brackets last (around ∷ outer)) ts ≡ walk (open_brackets (and_item (Standing x) around) outer) rest)
+  bodies_more_arrive : (bs : Bodies) (b : BodyTree) (place : Place) (so_far : List BodyTree) (around : OpenBracket) (x : Element) (outer : List OpenBracket) (k : List Sign) (ts : List Token) (last : OpenBracket) → WellBodies bs → length outer + (1 + bodies_depth bs) ≤ 128 → ((at : Place) → ended at last ≡ Ok (filled (body_start place so_far) b)) → last.inside ≡ inside.Block → MakesBlock place so_far b bs x → Fits (bodies_more bs (Mark punctuation.close_curly ∷ k)) ts → (rest : List Token) × Fits k rest × (walk (open_brackets last (around ∷ outer)) ts ≡ walk (open_brackets (and_item (Standing x) around) outer) rest)
   bodies_more_arrive no_bodies b place so_far around x outer k ts last w d n i m f =
       let c = mark_is f in
-      (c.1, c.4, close_step Curly last (filled (start place so_far) b) around x outer c.0 ts c.1 c.2 (mark_sort c.0 punctuation.close_curly (Closes Curly) c.3 refl) (ap (λ (j : Inside). closes Curly j) i) (n c.0.place) m)
+      (c.1, c.4, close_step Curly last (filled (body_start place so_far) b) around x outer c.0 ts c.1 c.2 (mark_sort c.0 punctuation.close_curly (Closes Curly) c.3 refl) (ap (λ (j : Inside). closes Curly j) i) (n c.0.place) m)
   bodies_more_arrive (and_bodies v bs) b place so_far around x outer k ts last w d n i m f =
       let c = mark_is f in
-      let e = semicolon_walks last (filled (start place so_far) b) (around ∷ outer) c.0 ts c.1 c.2 (mark_sort c.0 punctuation.semicolon Ends c.3 refl) i (n c.0.place) in
+      let e = semicolon_walks last (filled (body_start place so_far) b) (around ∷ outer) c.0 ts c.1 c.2 (mark_sort c.0 punctuation.semicolon Ends c.3 refl) i (n c.0.place) in
       let s = body_arrives v place (with_body place so_far b) (around ∷ outer) (bodies_more bs (Mark punctuation.close_curly ∷ k)) c.1 w.0 (omega (arith, le-max_left (body_depth v) (bodies_depth bs))) (after_body_arrows bs k) (after_body_colons bs k) c.4 in
       let r = bodies_more_arrive bs v place (with_body place so_far b) around x outer k s.rest s.inner w.1 (omega (arith, le-max_right (body_depth v) (bodies_depth bs))) s.ends s.inside m s.fits in
       (r.0, r.1, e ∙ ap (λ (l : OpenBracket). walk (open_brackets l (around ∷ outer)) c.1) (body_is_start place so_far b) ∙ s.walks ∙ r.2)
