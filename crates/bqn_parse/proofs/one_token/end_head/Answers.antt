@@ -8,7 +8,7 @@ use Rattle.bqn_syntax.specs.grammar.Trees.{header_of, stmt_of}
 use Rattle.bqn_parse.specs.Views.{items_of}
 use Rattle.bqn_parse.specs.Walking.{bracket_shown, Moves}
 use Rattle.bqn_parse.proofs.Stepping.{headed-first}
-use Rattle.bqn_parse.proofs.step.end_head.Goals as goal
+use Rattle.bqn_parse.proofs.one_token.end_head.Goals as goal
 
 pub returns : goal.returns
 returns c =

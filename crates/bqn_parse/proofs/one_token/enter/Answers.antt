@@ -4,7 +4,7 @@ use Rattle.bqn_syntax.specs.grammar.Parsing as parsing
 use Rattle.bqn_parse.specs.declared.open_bracket.OpenBracket.{OpenBracket}
 use Rattle.bqn_parse.specs.Walking.{around_shown, bracket_shown, walk_shown}
 use Rattle.bqn_parse.proofs.Stepping.{length-outer, opened-shown, pushed-shown}
-use Rattle.bqn_parse.proofs.step.enter.Goals as goal
+use Rattle.bqn_parse.proofs.one_token.enter.Goals as goal
 
 pub returns : goal.returns
 returns c = λ tokens.

@@ -5,7 +5,7 @@ use Rattle.bqn_syntax.specs.grammar.Parsing as parsing
 use Rattle.bqn_parse.specs.declared.open_bracket.OpenBracket.{OpenBracket}
 use Rattle.bqn_parse.specs.Walking.{bracket_shown, walk_shown, Moves}
 use Rattle.bqn_parse.proofs.Stepping.{goes-on-at, question-elsewhere}
-use Rattle.bqn_parse.proofs.step.question.Goals as goal
+use Rattle.bqn_parse.proofs.one_token.question.Goals as goal
 
 pub returns-in-Block : goal.returns-in-Block
 returns-in-Block c =

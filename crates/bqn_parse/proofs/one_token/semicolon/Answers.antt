@@ -5,7 +5,7 @@ use Rattle.bqn_syntax.specs.grammar.Parsing as parsing
 use Rattle.bqn_parse.specs.declared.open_bracket.OpenBracket.{OpenBracket}
 use Rattle.bqn_parse.specs.Walking.{bracket_shown, walk_shown, Moves}
 use Rattle.bqn_parse.proofs.Stepping.{goes-on-at, semicolon-elsewhere}
-use Rattle.bqn_parse.proofs.step.semicolon.Goals as goal
+use Rattle.bqn_parse.proofs.one_token.semicolon.Goals as goal
 
 pub returns-in-Block : goal.returns-in-Block
 returns-in-Block c =

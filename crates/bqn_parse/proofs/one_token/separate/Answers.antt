@@ -5,7 +5,7 @@ use Rattle.bqn_syntax.specs.grammar.Parsing as parsing
 use Rattle.bqn_parse.specs.declared.open_bracket.OpenBracket.{OpenBracket}
 use Rattle.bqn_parse.specs.Walking.{bracket_shown, walk_shown, Moves}
 use Rattle.bqn_parse.proofs.Stepping.{goes-on-at, separated-elsewhere}
-use Rattle.bqn_parse.proofs.step.separate.Goals as goal
+use Rattle.bqn_parse.proofs.one_token.separate.Goals as goal
 
 pub returns-in_default : goal.returns-in_default
 returns-in_default c =

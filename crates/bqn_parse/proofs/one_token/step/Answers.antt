@@ -5,7 +5,7 @@ use Rattle.bqn_syntax.specs.grammar.Parsing as parsing
 use Rattle.bqn_parse.specs.declared.open_bracket.OpenBracket.{OpenBracket}
 use Rattle.bqn_parse.specs.Looking.{ahead_shown}
 use Rattle.bqn_parse.specs.Walking.{bracket_shown, walk_shown, Moves}
-use Rattle.bqn_parse.proofs.step.step.Goals as goal
+use Rattle.bqn_parse.proofs.one_token.step.Goals as goal
 
 pub returns-in-Opens : goal.returns-in-Opens
 returns-in-Opens c =

@@ -3,7 +3,7 @@ use Rattle.bqn_syntax.specs.grammar.Parsing as parsing
 use Rattle.bqn_parse.specs.declared.open_bracket.OpenBracket.{OpenBracket}
 use Rattle.bqn_parse.specs.Views.{item_of}
 use Rattle.bqn_parse.specs.Walking.{around_shown, bracket_shown}
-use Rattle.bqn_parse.proofs.step.take.Goals as goal
+use Rattle.bqn_parse.proofs.one_token.take.Goals as goal
 
 pub returns : goal.returns
 returns c = λ tokens.

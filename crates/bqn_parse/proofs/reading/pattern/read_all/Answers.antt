@@ -4,7 +4,7 @@ use Rattle.bqn_parse.specs.Strands.{Strung, one_more, spelt, strung_of}
 use Rattle.bqn_parse.specs.Views.{item_of, items_of, when}
 use Rattle.bqn_parse.proofs.Fused.{items-last}
 use Rattle.bqn_parse.proofs.Groups.{put-stuck}
-use Rattle.bqn_parse.proofs.pattern.read_all.Goals as goal
+use Rattle.bqn_parse.proofs.reading.pattern.read_all.Goals as goal
 
 pub returns-in-Ok-false : goal.returns-in-Ok-false
 returns-in-Ok-false c =

@@ -1,7 +1,7 @@
 use Rattle.std.proofs.Common.{◌≡◌, length, reverse}
 use Rattle.bqn_parse.specs.Strands.{spelt, strung_of}
 use Rattle.bqn_parse.specs.Views.{items_of}
-use Rattle.bqn_parse.proofs.pattern.read_all.Given as goal
+use Rattle.bqn_parse.proofs.reading.pattern.read_all.Given as goal
 
 abbrev pub decreases-items : goal.decreases-items
 decreases-items l = length l.items.items

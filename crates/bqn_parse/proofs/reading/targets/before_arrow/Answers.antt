@@ -2,7 +2,7 @@ use Rattle.std.proofs.Common.{◌∷◌, reverse, ap, ◌∙◌}
 use Rattle.bqn_syntax.specs.declared.token.Token.{Token}
 use Rattle.bqn_parse.specs.Views.{backward, unit_shown}
 use Rattle.bqn_parse.proofs.Trains.{found-snoc, target-before}
-use Rattle.bqn_parse.proofs.targets.before_arrow.Goals as goal
+use Rattle.bqn_parse.proofs.reading.targets.before_arrow.Goals as goal
 
 pub returns-in_ok-append-in-Some-name_of-clause-means : goal.returns-in_ok-append-in-Some-name_of-clause-means
 returns-in_ok-append-in-Some-name_of-clause-means c =

@@ -5,7 +5,7 @@ use Rattle.bqn_syntax.specs.grammar.Units.{Unit', Function}
 use Rattle.bqn_parse.specs.Drafts.{function_of}
 use Rattle.bqn_parse.specs.Leftward.{joined}
 use Rattle.bqn_parse.proofs.Leftward.{joined-more}
-use Rattle.bqn_parse.proofs.steps.called.Goals as goal
+use Rattle.bqn_parse.proofs.reading.value_steps.called.Goals as goal
 
 pub returns-in_ok-push_monad-in-None-clause-means : goal.returns-in_ok-push_monad-in-None-clause-means
 returns-in_ok-push_monad-in-None-clause-means c =
