@@ -1,4 +1,4 @@
--- The items of a tree's pieces, and what each level of the walk keeps of its items.
+-- The items of a tree's pieces, and what each open bracket of the walk keeps of its items.
 use Rattle.std.proofs.Common.{◌≤◌, ℕ, Bool, List, [], ◌∷◌, ◌++◌}
 use Rattle.bqn_syntax.specs.declared.token.Token.{Token}
 use Rattle.bqn_syntax.specs.declared.tree.Arrow.{Arrow}
@@ -88,7 +88,7 @@ expr_items (Value last ss) = steps_items ss ++ maybe_items last
 expr_items (Train ts ds) = target_items ts ++ deriveds_items ds
 expr_items (Modifier ts x) = target_items ts ++ part_items x
 
--- what the walk keeps of each item of a level: a part that stands for one token or one bracket group is well, a list that is
+-- what the walk keeps of each item of an open bracket: a part that stands for one token or one bracket group is well, a list that is
 -- a pattern is one
 abbrev pub IsOne : Part → Type 0
 IsOne (Field x names) = ⊥

@@ -29,8 +29,8 @@ other-first : (most : ℕ) (m : Marks) (ms : List Marks) → is_plain m ≡ fals
 other-first most m ms e = ap (λ (plain : Bool). elim plain as (λ _. Bool) [ true ↦ list_all is_plain ms && nat_le (length (m ∷ ms)) most | false ↦ plain_last most ms ]) e
 
 -- the bodies from one on
-at_body : (bodies : List BodyMarks) (index : ℕ) (body : BodyMarks) → index < length bodies → body ≡ get_or bodies index body → map marks_shown (drop index bodies) ≡ marks_shown body ∷ map marks_shown (drop (index + 1) bodies)
-at_body bodies index body inside is =
+at-body : (bodies : List BodyMarks) (index : ℕ) (body : BodyMarks) → index < length bodies → body ≡ get_or bodies index body → map marks_shown (drop index bodies) ≡ marks_shown body ∷ map marks_shown (drop (index + 1) bodies)
+at-body bodies index body inside is =
     ap (map marks_shown) (drop-cons bodies index body inside)
     ∙ ap (λ (first : BodyMarks). marks_shown first ∷ map marks_shown (drop (suc index) bodies)) (sym is)
     ∙ ap (λ (next : ℕ). marks_shown body ∷ map marks_shown (drop next bodies)) (sym (add-one index))
@@ -43,15 +43,15 @@ pub so_far-start : (most : ℕ) (bodies : List BodyMarks) → SoFar most 0 bodie
 so_far-start most bodies = record { same = refl }
 
 pub so_far-step : (most index : ℕ) (bodies : List BodyMarks) (body : BodyMarks) → SoFar most index bodies → index < length bodies → body ≡ get_or bodies index body → is_plain (marks_shown body) ≡ false → SoFar most (index + 1) bodies
-so_far-step most index bodies body so inside is e = record { same = sym (other-first most (marks_shown body) (map marks_shown (drop (index + 1) bodies)) e) ∙ ap (plain_last most) (sym (at_body bodies index body inside is)) ∙ so.same }
+so_far-step most index bodies body so inside is e = record { same = sym (other-first most (marks_shown body) (map marks_shown (drop (index + 1) bodies)) e) ∙ ap (plain_last most) (sym (at-body bodies index body inside is)) ∙ so.same }
 
 pub so_far-plain : (most index : ℕ) (bodies : List BodyMarks) (body : BodyMarks) → SoFar most index bodies → index < length bodies → body ≡ get_or bodies index body → is_plain (marks_shown body) ≡ true
     → plain_last most (map marks_shown bodies) ≡ (list_all is_plain (map marks_shown (drop index bodies)) && nat_le (length bodies - index) most)
 so_far-plain most index bodies body so inside is e =
     sym so.same
-    ∙ ap (plain_last most) (at_body bodies index body inside is)
+    ∙ ap (plain_last most) (at-body bodies index body inside is)
     ∙ plain-first most (marks_shown body) (map marks_shown (drop (index + 1) bodies)) e
-    ∙ ap (λ (ms : List Marks). list_all is_plain ms && nat_le (length ms) most) (sym (at_body bodies index body inside is))
+    ∙ ap (λ (ms : List Marks). list_all is_plain ms && nat_le (length ms) most) (sym (at-body bodies index body inside is))
     ∙ ap (λ (n : ℕ). list_all is_plain (map marks_shown (drop index bodies)) && nat_le n most) (length-marks (drop index bodies) ∙ length-drop index bodies)
 
 pub so_far-end : (most index : ℕ) (bodies : List BodyMarks) → SoFar most index bodies → length bodies ≤ index → plain_last most (map marks_shown bodies) ≡ true

@@ -139,7 +139,7 @@ outermost-not (StrandPattern qs) e = absurd (let p : true ≡ false = e in cc)
 
 pub ruleset argument_laws = (left-name, left-pattern, right-name, right-pattern, outermost-may, outermost-not)
 
--- Behind the self part.
+-- After the self part.
 
 abbrev plain_header : Option Token → Token → Option Token → Option Pattern → Header
 plain_header l own r right = record { left = None; left_operand = l; own = own; right_operand = r; right = right }
@@ -220,12 +220,12 @@ pub ruleset self_laws = (self-mod1, self-mod2, self-function)
 
 -- Whether a left argument stands first.
 
-too_many : (l own r : Option Token) (x y : List items.Element) (rest : List (List items.Element)) → with_right l own r (x ∷ y ∷ rest) ≡ None
-too_many l None r x y rest = refl
-too_many l (Some own) r x y rest = refl
+too-many : (l own r : Option Token) (x y : List items.Element) (rest : List (List items.Element)) → with_right l own r (x ∷ y ∷ rest) ≡ None
+too-many l None r x y rest = refl
+too-many l (Some own) r x y rest = refl
 
 function-two : (t : Tag) (own x y : List items.Element) (rest : List (List items.Element)) → function_form t own (x ∷ y ∷ rest) ≡ None
-function-two tag.Function own x y rest = too_many None (lone_token own) None x y rest
+function-two tag.Function own x y rest = too-many None (lone_token own) None x y rest
 function-two tag.Subject own x y rest = refl
 function-two tag.Mod1 own x y rest = refl
 function-two tag.Mod2 own x y rest = refl
@@ -234,16 +234,16 @@ function-two tag.Nothing own x y rest = refl
 abbrev absent : Option Header
 absent = None
 
-then_none : (o : Option Pattern) → option_and_then (λ q. absent) o ≡ None
-then_none None = refl
-then_none (Some x) = refl
+then-none : (o : Option Pattern) → option_and_then (λ q. absent) o ≡ None
+then-none None = refl
+then-none (Some x) = refl
 
-no_right : (q : Pattern) (own : Option Token) → option_and_then (left_of q) (with_right None own None []) ≡ None
-no_right q None = refl
-no_right q (Some own) = refl
+no-right : (q : Pattern) (own : Option Token) → option_and_then (left_of q) (with_right None own None []) ≡ None
+no-right q None = refl
+no-right q (Some own) = refl
 
 function-alone : (q : Pattern) (t : Tag) (own : List items.Element) → option_and_then (left_of q) (function_form t own []) ≡ None
-function-alone q tag.Function own = no_right q (lone_token own)
+function-alone q tag.Function own = no-right q (lone_token own)
 function-alone q tag.Subject own = refl
 function-alone q tag.Mod1 own = refl
 function-alone q tag.Mod2 own = refl
@@ -279,20 +279,20 @@ modifier-function tag.Subject own rest e = refl
 modifier-function tag.Nothing own rest e = refl
 modifier-function tag.Function own rest e = absurd (let p : false ≡ true = e in cc)
 
-no_operand : (t : Tag) (y : List items.Element) (rest : List (List items.Element)) → operand_form t None y rest None ≡ None
-no_operand tag.Mod1 y rest = refl
-no_operand tag.Mod2 y [] = refl
-no_operand tag.Mod2 y (r ∷ rest) = refl
-no_operand tag.Subject y rest = refl
-no_operand tag.Function y rest = refl
-no_operand tag.Nothing y rest = refl
+no-operand : (t : Tag) (y : List items.Element) (rest : List (List items.Element)) → operand_form t None y rest None ≡ None
+no-operand tag.Mod1 y rest = refl
+no-operand tag.Mod2 y [] = refl
+no-operand tag.Mod2 y (r ∷ rest) = refl
+no-operand tag.Subject y rest = refl
+no-operand tag.Function y rest = refl
+no-operand tag.Nothing y rest = refl
 
 -- no self part begins with the name of a modifier
 modifier-first : (x y : List items.Element) (rest : List (List items.Element)) → is_modifier (group_tag x) ≡ true → without_left (x ∷ y ∷ rest) ≡ None
 modifier-first x y rest e =
     ap (λ (other : Option Header). operand_form (group_tag y) (left_operand x) y rest other) (modifier-function (group_tag x) x (y ∷ rest) e)
     ∙ ap (λ (l : Option Token). operand_form (group_tag y) l y rest None) (modifier-token (lone_token x) e)
-    ∙ no_operand (group_tag y) y rest
+    ∙ no-operand (group_tag y) y rest
 
 or_left-none : (o : Option Header) (gs : List (List items.Element)) → with_left gs ≡ None → or_left o gs ≡ o
 or_left-none None gs e = e
@@ -312,7 +312,7 @@ form-left x (y ∷ []) e = absurd (let p : false ≡ true = e in cc)
 form-left x (y ∷ z ∷ rest) e = ap (λ (o : Option Header). or_left o (x ∷ y ∷ z ∷ rest)) (self-other (group_tag y) x y (z ∷ rest) (not-false (is_modifier (group_tag y)) e) ∙ function-two (group_tag x) x y z rest)
 
 left-none : (x : List items.Element) (gs : List (List items.Element)) → follow_left gs ≡ false → with_left (x ∷ gs) ≡ None
-left-none x [] e = then_none (left_argument x)
+left-none x [] e = then-none (left_argument x)
 left-none x (y ∷ []) e = with_each (left_argument x) (λ q. option_and_then (left_of q) (function_form (group_tag y) y [])) (λ q. function-alone q (group_tag y) y)
   where
     with_each : (o : Option Pattern) (f : Pattern → Option Header) → ((q : Pattern) → f q ≡ None) → option_and_then f o ≡ None
@@ -320,7 +320,7 @@ left-none x (y ∷ []) e = with_each (left_argument x) (λ q. option_and_then (l
     with_each (Some q) f none = none q
 left-none x (y ∷ z ∷ rest) e =
     ap (λ (o : Option Header). option_and_then (λ q. option_and_then (left_of q) o) (left_argument x)) (modifier-first y z rest (not-true (is_modifier (group_tag y)) e))
-    ∙ then_none (left_argument x)
+    ∙ then-none (left_argument x)
 
 pub form-self : (x : List items.Element) (gs : List (List items.Element)) → follow_left gs ≡ false → header_form (x ∷ gs) ≡ without_left (x ∷ gs)
 form-self x gs e = or_left-none (without_left (x ∷ gs)) (x ∷ gs) (left-none x gs e)

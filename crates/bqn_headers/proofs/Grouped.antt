@@ -44,26 +44,26 @@ pub ruleset push_laws = (group-pushed, groups-pushed, closed-empty, closed-some,
 
 -- From the left and from the right.
 
-onto_all : List items.Element → Option (List (List items.Element)) → Option (List (List items.Element))
-onto_all [] gs = gs
-onto_all (x ∷ xs) gs = onto_first x (onto_all xs gs)
+onto-all : List items.Element → Option (List (List items.Element)) → Option (List (List items.Element))
+onto-all [] gs = gs
+onto-all (x ∷ xs) gs = onto_first x (onto-all xs gs)
 
 abbrev with_all : List (List items.Element) → Option (List (List items.Element)) → Option (List (List items.Element))
 with_all done gs = option_map (λ more. done ++ more) gs
 
-onto_all-none : (xs : List items.Element) → onto_all xs None ≡ None
-unfolding onto_all
+onto_all-none : (xs : List items.Element) → onto-all xs None ≡ None
+unfolding onto-all
 onto_all-none [] = refl
 onto_all-none (x ∷ xs) = ap (onto_first x) (onto_all-none xs)
 
-onto_all-snoc : (xs : List items.Element) (x : items.Element) (gs : Option (List (List items.Element))) → onto_all (xs ++ x ∷ []) gs ≡ onto_all xs (onto_first x gs)
-unfolding onto_all
+onto_all-snoc : (xs : List items.Element) (x : items.Element) (gs : Option (List (List items.Element))) → onto-all (xs ++ x ∷ []) gs ≡ onto-all xs (onto_first x gs)
+unfolding onto-all
 onto_all-snoc [] x gs = refl
 onto_all-snoc (y ∷ xs) x gs = ap (onto_first y) (onto_all-snoc xs x gs)
 
--- elements in front of a group of one
-onto_all-group : (xs : List items.Element) (x : items.Element) (gs : Option (List (List items.Element))) → onto_all xs (option_map (λ more. (x ∷ []) ∷ more) gs) ≡ option_map (λ more. (xs ++ x ∷ []) ∷ more) gs
-unfolding onto_all
+-- elements before a group of one
+onto_all-group : (xs : List items.Element) (x : items.Element) (gs : Option (List (List items.Element))) → onto-all xs (option_map (λ more. (x ∷ []) ∷ more) gs) ≡ option_map (λ more. (xs ++ x ∷ []) ∷ more) gs
+unfolding onto-all
 onto_all-group [] x gs = refl
 onto_all-group (y ∷ xs) x gs = ap (onto_first y) (onto_all-group xs x gs) ∙ onto gs
   where
@@ -87,11 +87,11 @@ abbrev at : List (List items.Element) → List items.Element → items.Element �
 at done xs x rest = resumed (grouping done (xs ++ x ∷ []) false) rest
 
 abbrev goal_at : List (List items.Element) → List items.Element → items.Element → List items.Item → Option (List (List items.Element))
-goal_at done xs x rest = with_all done (onto_all xs (groups (Standing x ∷ rest)))
+goal_at done xs x rest = with_all done (onto-all xs (groups (Standing x ∷ rest)))
 
--- behind an element
+-- after an element
 resumed-at : (done : List (List items.Element)) (xs : List items.Element) (x : items.Element) (rest : List items.Item) → at done xs x rest ≡ goal_at done xs x rest
-unfolding onto_all
+unfolding onto-all
 resumed-at done xs x [] = ap Some (closed-snoc done xs x) ∙ sym (ap (with_all done) (onto_all-group xs x (Some [])))
 resumed-at done xs x (Standing y ∷ rest) =
     ap (λ (gs : List (List items.Element)). resumed (grouping gs (y ∷ []) false) rest) (closed-snoc done xs x)
@@ -100,7 +100,7 @@ resumed-at done xs x (Standing y ∷ rest) =
     ∙ with_all-closed done (xs ++ x ∷ []) (groups (Standing y ∷ rest))
     ∙ sym (ap (with_all done) (onto_all-group xs x (groups (Standing y ∷ rest))))
   where
-    no_front : (gs : Option (List (List items.Element))) → onto_all [] gs ≡ gs
+    no_front : (gs : Option (List (List items.Element))) → onto-all [] gs ≡ gs
     no_front gs = refl
 resumed-at done xs x (Joining ∷ Standing y ∷ rest) =
     ap (λ (next : Option Grouping). option_and_then (λ g. resumed g (Standing y ∷ rest)) next) (with_joiner-snoc done xs x)
@@ -132,7 +132,7 @@ all-of (Some more) = refl
 
 -- before the first element
 resumed-start : (items : List items.Item) → resumed (grouping [] [] false) items ≡ groups items
-unfolding onto_all
+unfolding onto-all
 resumed-start [] = refl
 resumed-start (Standing x ∷ items) = resumed-at [] [] x items ∙ all-of (groups (Standing x ∷ items))
 resumed-start (Joining ∷ items) = refl

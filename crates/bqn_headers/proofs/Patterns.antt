@@ -51,8 +51,8 @@ abbrev pub behind : {A : Type 0} → List A → Option (List A) → Option (List
 behind xs None = None
 behind xs (Some ys) = Some (xs ++ ys)
 
-each_of : List Element → Option (List Pattern)
-each_of xs = items.each (items.element_pattern true) (group_shown xs)
+each-of : List Element → Option (List Pattern)
+each-of xs = items.each (items.element_pattern true) (group_shown xs)
 
 -- so many patterns are those of the elements that are gone
 pub record Gone (so : List Pattern) (xs : List Element) (whole : Option (List Pattern)) : Type 0 where

@@ -5,7 +5,7 @@ use Rattle.bqn_syntax.specs.grammar.Items.{Element, Item, Standing, Joining}
 use Rattle.bqn_headers.specs.declared.groups.Grouping.{Grouping as CodeGrouping}
 use Rattle.bqn_headers.specs.Elements.{group_shown, groups_shown}
 
--- the groups that are whole, the one that may go on, and whether a `‿` stands behind it
+-- the groups that are whole, the one that may go on, and whether a `‿` stands after it
 pub record Grouping : Type 0 where
   pub done : List (List Element)
   pub current : List Element

@@ -23,4 +23,6 @@ abbrev pub mod1_class : List Marks → Option Class
 mod1_class ms = if list_any has_function ms then None else class_if (if list_any is_deferred ms then class.Mod1Deferred else class.Mod1) ms
 
 abbrev pub mod2_class : List Marks → Option Class
-mod2_class ms = if list_any has_one_self ms || list_any has_function ms then None else class_if (if list_any is_deferred ms then class.Mod2Deferred else class.Mod2) ms
+mod2_class ms =
+    if list_any has_one_self ms || list_any has_function ms then None
+    else class_if (if list_any is_deferred ms then class.Mod2Deferred else class.Mod2) ms

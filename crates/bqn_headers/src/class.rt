@@ -12,7 +12,7 @@ use crate::name::own_tag;
 use bqn_syntax::{Class, Header, Tag};
 
 /// What occurs in a body's own text: its header, whether it has a predicate, how many statements
-/// stand behind the last one, and in its statements `𝕨`, `𝕩` or `𝕤` of either role (`args`), `𝕗`
+/// stand after the last one, and in its statements `𝕨`, `𝕩` or `𝕤` of either role (`args`), `𝕗`
 /// of either role or `𝕣` (`one`), `_𝕣` (`one_self`), `𝕘` of either role or `_𝕣_` (`two`).
 #[derive(Drop)]
 pub struct BodyMarks {

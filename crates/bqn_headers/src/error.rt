@@ -4,7 +4,7 @@ ghost use Rattle.bqn_headers.specs.declared.error.HeadError.TheVariants as error
 use bqn_base::Memory;
 use std::alloc::{AllocError, AllocFailed};
 
-/// Why a piece has no header: it is none, or memory is wanting.
+/// Why a piece has no header: it is none, or memory runs out.
 #[derive(Clone, Copy, Debug, PartialEq, Eq)]
 pub enum HeadError {
     Bad,

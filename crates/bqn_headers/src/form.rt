@@ -14,7 +14,7 @@ use crate::queue::Queue;
 use bqn_syntax::{Header, Pattern, Tag, Token};
 use std::alloc::Global;
 
-/// A header with this self part, behind which these groups stand: a right argument, or nothing.
+/// A header with this self part, after which these groups stand: a right argument, or nothing.
 #[tactic(auto, using(crate::proofs::Forms::right_laws))]
 fn with_right(
     alloc: Global,

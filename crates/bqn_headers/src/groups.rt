@@ -13,7 +13,7 @@ use std::alloc::Global;
 use std::mem;
 
 /// The groups of joined elements so far: those that are whole, the one that may go on (empty
-/// before the first element), and whether a `‿` stands behind it.
+/// before the first element), and whether a `‿` stands after it.
 #[derive(Drop)]
 struct Grouping {
     done: Queue<Queue<Element>>,
@@ -21,7 +21,7 @@ struct Grouping {
     joins: bool,
 }
 
-/// Puts a group behind the others, unless it is empty.
+/// Puts a group after the others, unless it is empty.
 #[tactic(auto, using(crate::proofs::Grouped::push_laws))]
 fn put_group(groups: &mut Queue<Queue<Element>>, group: Queue<Element>) -> Result<(), HeadError>
     ensures { Moves (Some (closed (groups_shown groups.old) (group_shown group))) (groups_shown groups.new) result }
@@ -36,7 +36,8 @@ fn put_group(groups: &mut Queue<Queue<Element>>, group: Queue<Element>) -> Resul
 #[tactic(auto, using(crate::proofs::Grouped::push_laws))]
 impl Grouping {
     fn take_element(&mut self, alloc: Global, element: Element) -> Result<(), HeadError>
-        ensures { Moves (Some (with_element self.old.joins (groups_shown self.old.done) (group_shown self.old.current) (element_shown element))) (grouping_shown self.new) result }
+        ensures { Moves (Some (with_element self.old.joins (groups_shown self.old.done) (group_shown self.old.current) (element_shown element)))
+            (grouping_shown self.new) result }
     {
         if self.joins {
             self.current.push(element)?;

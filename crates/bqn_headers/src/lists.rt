@@ -68,7 +68,8 @@ impl Lists {
 
     /// Puts an item into the piece that is being read.
     fn push(&mut self, item: Item) -> Result<(), HeadError>
-        ensures { Moves (Some (lists (and_item (open_shown self.old.inner) (item_shown item)) (outer_shown self.old.outer.items))) (lists_shown self.new) result }
+        ensures { Moves (Some (lists (and_item (open_shown self.old.inner) (item_shown item)) (outer_shown self.old.outer.items)))
+            (lists_shown self.new) result }
     {
         self.inner.items.push(item)?;
         Ok(())
@@ -84,7 +85,8 @@ impl Lists {
 
     /// Closes the innermost list, which is then an element of the one around it.
     fn close_list(&mut self, alloc: Global) -> Result<(), HeadError>
-        ensures { Moves (list_closes (outer_shown self.old.outer.items) (end_of_piece (map pattern_of self.old.inner.pieces.items) (items_shown self.old.inner.items))) (lists_shown self.new) result }
+        ensures { Moves (list_closes (outer_shown self.old.outer.items)
+            (end_of_piece (map pattern_of self.old.inner.pieces.items) (items_shown self.old.inner.items))) (lists_shown self.new) result }
     {
         let Some(around) = self.outer.pop() else {
             return Err(HeadError::Bad);
@@ -96,7 +98,8 @@ impl Lists {
 
     /// Ends a piece of the innermost list; the header itself has no pieces.
     fn separate(&mut self, alloc: Global) -> Result<(), HeadError>
-        ensures { Moves (list_goes_on (outer_shown self.old.outer.items) (end_of_piece (map pattern_of self.old.inner.pieces.items) (items_shown self.old.inner.items))) (lists_shown self.new) result }
+        ensures { Moves (list_goes_on (outer_shown self.old.outer.items)
+            (end_of_piece (map pattern_of self.old.inner.pieces.items) (items_shown self.old.inner.items))) (lists_shown self.new) result }
     {
         if self.outer.is_empty() {
             return Err(HeadError::Bad);

@@ -52,7 +52,7 @@ impl<T> Queue<T> {
         self.items.front()
     }
 
-    /// Puts an element behind the others.
+    /// Puts an element after the others.
     pub(crate) fn push(&mut self, item: T) -> Result<(), AllocFailed<T>>
         ensures { OnOk result (self.new ≡ self.old ++ item ∷ []) }
     {

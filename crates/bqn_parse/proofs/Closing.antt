@@ -1,4 +1,4 @@
--- A level that closes.
+-- A bracket that closes.
 use Rattle.std.proofs.Common.{◌≡◌, ◌<◌, List, [], ◌∷◌, ◌++◌, Ok, Err, length, map, refl, ap, ◌∙◌, arith, Box}
 use Rattle.std.specs.Global.{Global}
 use Rattle.bqn_base.specs.declared.place.Place.{Place}
@@ -8,8 +8,8 @@ use Rattle.bqn_syntax.specs.declared.token.Token.{Token}
 use Rattle.bqn_syntax.specs.grammar.Items.{OfPart}
 use Rattle.bqn_syntax.specs.grammar.Parsing as parsing
 use Rattle.bqn_syntax.specs.grammar.Trees.{expr_of, exprs, Merge, Paren}
-use Rattle.bqn_parse.specs.declared.level.Level.{Level}
-use Rattle.bqn_parse.specs.Walking.{around_shown, level_shown}
+use Rattle.bqn_parse.specs.declared.open_bracket.OpenBracket.{OpenBracket}
+use Rattle.bqn_parse.specs.Walking.{around_shown, bracket_shown}
 use Rattle.bqn_parse.proofs.Stepping.{pushed-shown}
 
 pub parens-one : (place : Place) (all xs : List CodeExpr) (x : CodeExpr) → all ≡ xs ++ x ∷ [] → xs ≡ [] → parsing.parens_part place (map expr_of all) ≡ Ok (OfPart (Paren (expr_of x)))
@@ -31,8 +31,8 @@ merge-some place (x ∷ xs) some = refl
 
 pub ruleset merge_laws = (merge-some)
 
--- the level around, and those around that
-pub around-popped : (tokens : List Token) (outer rest : List (Box Level Global)) (around : Box Level Global) → outer ≡ rest ++ around ∷ [] → around_shown tokens outer ≡ level_shown tokens around.value ∷ around_shown tokens rest
+-- the bracket around, and those around that
+pub around-popped : (tokens : List Token) (outer rest : List (Box OpenBracket Global)) (around : Box OpenBracket Global) → outer ≡ rest ++ around ∷ [] → around_shown tokens outer ≡ bracket_shown tokens around.value ∷ around_shown tokens rest
 around-popped tokens outer rest around e = ap (around_shown tokens) e ∙ pushed-shown tokens rest around
 
 pub ruleset hand_laws = (around-popped)

@@ -14,7 +14,7 @@ use Rattle.bqn_syntax.specs.grammar.Units.{Unit', Row, row, Free, bind, binds, b
 use Rattle.bqn_parse.specs.Fused as fused
 use Rattle.bqn_parse.specs.Fused.{Piece, piece, with_term, next_at, drawn, put, ended, units_if, units_with}
 use Rattle.bqn_parse.specs.Following.{behind_of, ends_before}
-use Rattle.bqn_parse.specs.declared.following.Behind.TheVariants.{Draws, Else}
+use Rattle.bqn_parse.specs.declared.reading.following.Behind.TheVariants.{Draws, Else}
 use Rattle.bqn_parse.specs.declared.item.Item.{Item as CodeItem}
 use Rattle.bqn_parse.specs.Views.{item_of, items_of, when}
 
@@ -186,7 +186,7 @@ pub units_if-row : (fine : Bool) (next : Row) (given : Option Row) (items : List
 units_if-row true next given items e = ap (λ (o : Option Row). option_and_then (λ (n : Row). units_with (piece n Between) items) o) e
 units_if-row false next given items e = ap (λ (o : Option Row). option_and_then (λ (n : Row). units_with (piece n Between) items) o) e
 
--- where no joiner, dot or arrow follows, an element ends with the item in front of which it stands
+-- where no joiner, dot or arrow follows, an element ends with the item before which it stands
 pub plain-now : (row : Row) (y : Element) (items : List Item) → behind_of items ≡ Else
     → option_and_then (λ (n : Row). units_with (piece n Between) items) (with_term row (plain_term [] y)) ≡ units_with (piece row Between) (Standing y ∷ items)
 plain-now row y [] e = refl
@@ -238,7 +238,7 @@ items-turned all left e = ap (λ (xs : List CodeItem). items_of (reverse xs)) e 
 
 pub ruleset turn_laws = (items-last, items-turned)
 
--- What stands behind an item.
+-- What stands after an item.
 
 pub behind-none : (left : List CodeItem) → length left ≡ 0 → behind_of (items_of (reverse left)) ≡ Else
 behind-none [] e = refl

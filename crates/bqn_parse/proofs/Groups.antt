@@ -104,7 +104,7 @@ wanted-selecting literals xs items = piece-none literals xs (Selecting ∷ items
 wanted-wrong : (literals : Bool) (xs : List Element) (items : List Item) → piece_pattern literals (strung xs (Wrong ∷ items)) ≡ None
 wanted-wrong literals xs items = piece-none literals xs (Wrong ∷ items) tt
 
--- behind an element
+-- after an element
 
 behind-standing : (literals : Bool) (xs : List Element) (x y : Element) (items : List Item) → piece_pattern literals (strung xs (Standing x ∷ Standing y ∷ items)) ≡ None
 behind-standing literals xs x y items = piece-none literals xs (Standing x ∷ Standing y ∷ items) (not_one-before x (groups (Standing y ∷ items)) (not_empty-standing y items))

@@ -15,7 +15,7 @@ use Rattle.bqn_parse.specs.Looking.{ahead_shown, looks_shown, openings, stacked,
 pub reverse-snoc : {A : Type 0} (xs : List A) (x : A) → reverse (xs ++ x ∷ []) ≡ x ∷ reverse xs
 reverse-snoc xs x = reverse-append xs (x ∷ [])
 
--- a bracket opens: what stands behind it comes here
+-- a bracket opens: what stands after it comes here
 pub opens-shown : (sort : Sort) (b : Bracket) (old new : Looks) (behind : Ahead) → sort ≡ Opens b → ahead_shown behind ≡ plain.first_of (looks_shown old).outer
     → stacked new.outer.items ≡ plain.rest_of (looks_shown old).outer → ahead_shown new.here ≡ plain.ahead false behind.arrow behind.colon → looks_shown new ≡ plain.look sort (looks_shown old)
 opens-shown sort b old new behind s first rest here =
@@ -23,7 +23,7 @@ opens-shown sort b old new behind s first rest here =
     ∙ ap (λ (h : plain.Ahead). plain.looks h (plain.rest_of (looks_shown old).outer)) (here ∙ ap (λ (a : plain.Ahead). plain.ahead false a.arrow a.colon) first)
     ∙ ap (λ (s : Sort). plain.look s (looks_shown old)) (sym s)
 
--- and what stands behind it is found
+-- and what stands after it is found
 pub opens-found : (sort : Sort) (b : Bracket) (first : plain.Ahead) (behind : Ahead) (old new : List Ahead) → sort ≡ Opens b → ahead_shown behind ≡ first → new ≡ old ++ behind ∷ []
     → stacked new ≡ with_opening sort first (stacked old)
 opens-found sort b first behind old new s is e =

@@ -29,7 +29,7 @@ and-nothing s =
     ∙ ap (λ (b : Bool). classes.seen s.args s.one b (s.two || false)) (or-false s.one_self)
     ∙ ap (λ (b : Bool). classes.seen s.args s.one s.one_self b) (or-false s.two)
 
--- one more, behind what has been seen
+-- one more, after what has been seen
 pub and-more : (so now next rest all : classes.Seen) → classes.and so (classes.and now rest) ≡ all → next ≡ classes.and so now → classes.and next rest ≡ all
 and-more so now next rest all e n = ap (λ (s : classes.Seen). classes.and s rest) n ∙ and-assoc so now rest ∙ e
 

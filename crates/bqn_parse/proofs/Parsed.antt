@@ -16,7 +16,7 @@ use Rattle.bqn_syntax.specs.declared.tree.Tree.{Tree}
 use Rattle.bqn_syntax.specs.grammar.Grammar.{WellTreesAreFound, OnlyWellTreesAreFound, WellSpelled}
 use Rattle.bqn_syntax.specs.grammar.Trees.{Stmts, stmts, tree_of}
 use Rattle.bqn_parse.specs.declared.looks.Ahead.{Ahead}
-use Rattle.bqn_parse.specs.declared.level.Level.{Level}
+use Rattle.bqn_parse.specs.declared.open_bracket.OpenBracket.{OpenBracket}
 use Rattle.bqn_parse.specs.Looking.{ahead_by, ahead_shown, left_behind, openings, stacked, with_opening}
 use Rattle.bqn_parse.specs.declared.error.ParseError.{ParseError}
 use Rattle.bqn_parse.specs.declared.error.ParseError.TheVariants.{Refused, Memory}
@@ -26,27 +26,27 @@ use Rattle.bqn_parse.proofs.Stepping.{length-outer}
 
 -- The end of the program.
 
-pub program-refused : (outer : List parsing.Level) (answer : Result parsing.Level Refusal) (r : Refusal) → answer ≡ Err r → parsing.program_of outer answer ≡ Err r
+pub program-refused : (outer : List parsing.OpenBracket) (answer : Result parsing.OpenBracket Refusal) (r : Refusal) → answer ≡ Err r → parsing.program_of outer answer ≡ Err r
 program-refused [] answer r e = ap (parsing.program_of []) e
 program-refused (around ∷ outer) answer r e = ap (parsing.program_of (around ∷ outer)) e
 
-open-refused : (outer : List parsing.Level) (l : parsing.Level) → 0 < length outer → parsing.program_of outer (Ok l) ≡ Err (refusal.Bracket l.opened)
+open-refused : (outer : List parsing.OpenBracket) (l : parsing.OpenBracket) → 0 < length outer → parsing.program_of outer (Ok l) ≡ Err (refusal.Bracket l.opened)
 open-refused [] l some = absurd (omega arith)
 open-refused (around ∷ outer) l some = refl
 
-pub program-open : (tokens : List Token) (outer : List (Box Level Global)) (answer : Result parsing.Level Refusal) (l : parsing.Level) → answer ≡ Ok l → 0 < length outer → parsing.program_of (around_shown tokens outer) answer ≡ Err (refusal.Bracket l.opened)
+pub program-open : (tokens : List Token) (outer : List (Box OpenBracket Global)) (answer : Result parsing.OpenBracket Refusal) (l : parsing.OpenBracket) → answer ≡ Ok l → 0 < length outer → parsing.program_of (around_shown tokens outer) answer ≡ Err (refusal.Bracket l.opened)
 program-open tokens outer answer l e some =
     ap (parsing.program_of (around_shown tokens outer)) e
     ∙ open-refused (around_shown tokens outer) l (let n = length-outer tokens outer in omega arith)
 
-pub program-whole : (tokens : List Token) (outer : List (Box Level Global)) (answer : Result parsing.Level Refusal) (l : parsing.Level) → answer ≡ Ok l → outer ≡ [] → parsing.program_of (around_shown tokens outer) answer ≡ Ok (stmts l.statements)
-program-whole tokens outer answer l e none = ap (parsing.program_of (around_shown tokens outer)) e ∙ ap (λ (ls : List (Box Level Global)). parsing.program_of (around_shown tokens ls) (Ok l)) none
+pub program-whole : (tokens : List Token) (outer : List (Box OpenBracket Global)) (answer : Result parsing.OpenBracket Refusal) (l : parsing.OpenBracket) → answer ≡ Ok l → outer ≡ [] → parsing.program_of (around_shown tokens outer) answer ≡ Ok (stmts l.statements)
+program-whole tokens outer answer l e none = ap (parsing.program_of (around_shown tokens outer)) e ∙ ap (λ (ls : List (Box OpenBracket Global)). parsing.program_of (around_shown tokens ls) (Ok l)) none
 
 pub ruleset finish_laws = (program-refused, program-open, program-whole)
 
--- What stands behind the bracket that a token opens.
+-- What stands after the bracket that a token opens.
 
-step-by : (s : Sort) (a : plain.Ahead) (all : List plain.Ahead) (token : Token) (tokens : List Token) (so : parsing.Levels) → parsing.step s a token tokens so ≡ parsing.step s (ahead_by s (with_opening s a all)) token tokens so
+step-by : (s : Sort) (a : plain.Ahead) (all : List plain.Ahead) (token : Token) (tokens : List Token) (so : parsing.OpenBrackets) → parsing.step s a token tokens so ≡ parsing.step s (ahead_by s (with_opening s a all)) token tokens so
 step-by (Opens b) a all token tokens so = refl
 step-by (Closes b) a all token tokens so = refl
 step-by Separates a all token tokens so = refl
@@ -74,24 +74,24 @@ left-by Stands a all = refl
 
 -- The walk.
 
-abbrev going_on : Result parsing.Levels Refusal → List Token → Result Stmts Refusal
+abbrev going_on : Result parsing.OpenBrackets Refusal → List Token → Result Stmts Refusal
 going_on (Ok next) tokens = parsing.walk next tokens
 going_on (Err r) tokens = Err r
 
-walk-cons : (so : parsing.Levels) (token : Token) (tokens : List Token) → parsing.walk so (token ∷ tokens) ≡ going_on (parsing.step (sort_of token.kind) (plain.behind_group tokens) token (token ∷ tokens) so) tokens
+walk-cons : (so : parsing.OpenBrackets) (token : Token) (tokens : List Token) → parsing.walk so (token ∷ tokens) ≡ going_on (parsing.step (sort_of token.kind) (plain.behind_group tokens) token (token ∷ tokens) so) tokens
 walk-cons so token tokens = at (parsing.step (sort_of token.kind) (plain.behind_group tokens) token (token ∷ tokens) so)
   where
-    at : (answer : Result parsing.Levels Refusal) → (elim answer as (λ _. Result Stmts Refusal) [ Ok next ↦ parsing.walk next tokens | Err r ↦ Err r ]) ≡ going_on answer tokens
+    at : (answer : Result parsing.OpenBrackets Refusal) → (elim answer as (λ _. Result Stmts Refusal) [ Ok next ↦ parsing.walk next tokens | Err r ↦ Err r ]) ≡ going_on answer tokens
     at (Ok next) = refl
     at (Err r) = refl
 
 -- the walk so far does what the rest of the tokens wants
-pub record Going (index : ℕ) (left : List Ahead) (so : parsing.Levels) (tokens : List Token) : Type 0 where
+pub record Going (index : ℕ) (left : List Ahead) (so : parsing.OpenBrackets) (tokens : List Token) : Type 0 where
   pub same : parsing.walk so (drop index tokens) ≡ parsing.walk start tokens
   pub known : stacked left ≡ openings (drop index tokens)
 
-pub going-start : (left : List Ahead) (so : parsing.Levels) (tokens : List Token) → so ≡ start → stacked left ≡ openings tokens → Going 0 left so tokens
-going-start left so tokens e known = record { same = ap (λ (l : parsing.Levels). parsing.walk l tokens) e; known = known }
+pub going-start : (left : List Ahead) (so : parsing.OpenBrackets) (tokens : List Token) → so ≡ start → stacked left ≡ openings tokens → Going 0 left so tokens
+going-start left so tokens e known = record { same = ap (λ (l : parsing.OpenBrackets). parsing.walk l tokens) e; known = known }
 
 token-next : (index : ℕ) (tokens : List Token) (token : Token) → index < length tokens → token ≡ get_or tokens index token → drop index tokens ≡ token ∷ drop (index + 1) tokens
 token-next index tokens token inside is =
@@ -99,7 +99,7 @@ token-next index tokens token inside is =
     ∙ ap (λ (t : Token). t ∷ drop (suc index) tokens) (sym is)
     ∙ ap (λ (n : ℕ). token ∷ drop n tokens) (sym (add-one index))
 
-going-answer : (index : ℕ) (left : List Ahead) (so : parsing.Levels) (tokens : List Token) (token : Token) (a : Ahead) → Going index left so tokens → index < length tokens → token ≡ get_or tokens index token
+going-answer : (index : ℕ) (left : List Ahead) (so : parsing.OpenBrackets) (tokens : List Token) (token : Token) (a : Ahead) → Going index left so tokens → index < length tokens → token ≡ get_or tokens index token
     → ahead_shown a ≡ ahead_by (sort_of token.kind) (stacked left)
     → parsing.walk start tokens ≡ going_on (parsing.step (sort_of token.kind) (ahead_shown a) token (drop index tokens) so) (drop (index + 1) tokens)
 going-answer index left so tokens token a going inside is at =
@@ -110,27 +110,27 @@ going-answer index left so tokens token a going inside is at =
     sym going.same
     ∙ ap (parsing.walk so) e
     ∙ walk-cons so token rest
-    ∙ ap (λ (answer : Result parsing.Levels Refusal). going_on answer rest) (step-by s (plain.behind_group rest) (openings rest) token (token ∷ rest) so ∙ ap (λ (b : plain.Ahead). parsing.step s b token (token ∷ rest) so) (sym b))
+    ∙ ap (λ (answer : Result parsing.OpenBrackets Refusal). going_on answer rest) (step-by s (plain.behind_group rest) (openings rest) token (token ∷ rest) so ∙ ap (λ (b : plain.Ahead). parsing.step s b token (token ∷ rest) so) (sym b))
     ∙ ap (λ (ts : List Token). going_on (parsing.step s (ahead_shown a) token ts so) rest) (sym e)
 
-pub going-step : (index : ℕ) (left more : List Ahead) (so next : parsing.Levels) (tokens : List Token) (token : Token) (a : Ahead) → Going index left so tokens → index < length tokens → token ≡ get_or tokens index token
+pub going-step : (index : ℕ) (left more : List Ahead) (so next : parsing.OpenBrackets) (tokens : List Token) (token : Token) (a : Ahead) → Going index left so tokens → index < length tokens → token ≡ get_or tokens index token
     → ahead_shown a ≡ ahead_by (sort_of token.kind) (stacked left) → stacked more ≡ left_behind (sort_of token.kind) (stacked left)
     → parsing.step (sort_of token.kind) (ahead_shown a) token (drop index tokens) so ≡ Ok next → Going (index + 1) more next tokens
 going-step index left more so next tokens token a going inside is at rest e =
     let s = sort_of token.kind in
     let behind = drop (index + 1) tokens in
     record {
-      same = sym (going-answer index left so tokens token a going inside is at ∙ ap (λ (answer : Result parsing.Levels Refusal). going_on answer behind) e);
+      same = sym (going-answer index left so tokens token a going inside is at ∙ ap (λ (answer : Result parsing.OpenBrackets Refusal). going_on answer behind) e);
       known = rest ∙ ap (left_behind s) (going.known ∙ ap openings (token-next index tokens token inside is)) ∙ left-by s (plain.behind_group behind) (openings behind);
     }
 
-pub going-failed : (index : ℕ) (left : List Ahead) (so new : parsing.Levels) (tokens : List Token) (token : Token) (a : Ahead) (error : ParseError) → Going index left so tokens → index < length tokens → token ≡ get_or tokens index token
+pub going-failed : (index : ℕ) (left : List Ahead) (so new : parsing.OpenBrackets) (tokens : List Token) (token : Token) (a : Ahead) (error : ParseError) → Going index left so tokens → index < length tokens → token ≡ get_or tokens index token
     → ahead_shown a ≡ ahead_by (sort_of token.kind) (stacked left)
     → Moves {X = Unit {0}} (parsing.step (sort_of token.kind) (ahead_shown a) token (drop index tokens) so) new (Err error) → Gives (parsing.walk start tokens) (Err error)
-going-failed index left so new tokens token a (Refused r) going inside is at moves = going-answer index left so tokens token a going inside is at ∙ ap (λ (answer : Result parsing.Levels Refusal). going_on answer (drop (index + 1) tokens)) moves
+going-failed index left so new tokens token a (Refused r) going inside is at moves = going-answer index left so tokens token a going inside is at ∙ ap (λ (answer : Result parsing.OpenBrackets Refusal). going_on answer (drop (index + 1) tokens)) moves
 going-failed index left so new tokens token a Memory going inside is at moves = tt
 
-pub going-end : (index : ℕ) (left : List Ahead) (so : parsing.Levels) (tokens : List Token) → Going index left so tokens → length tokens ≤ index → parsing.walk start tokens ≡ parsing.program_of so.outer (parsing.ended parsing.nowhere so.level)
+pub going-end : (index : ℕ) (left : List Ahead) (so : parsing.OpenBrackets) (tokens : List Token) → Going index left so tokens → length tokens ≤ index → parsing.walk start tokens ≡ parsing.program_of so.outer (parsing.ended parsing.nowhere so.inner)
 going-end index left so tokens going outside = sym going.same ∙ ap (parsing.walk so) (drop_of_length-le tokens outside)
 
 pub ruleset walk_laws = (going-start)

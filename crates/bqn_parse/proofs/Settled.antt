@@ -11,8 +11,8 @@ use Rattle.bqn_parse.specs.Fused.{Piece, piece, with_term, next_at, drawn, units
 use Rattle.bqn_parse.specs.Following.{behind_of, ends_before, ends_by, is_no_modifier}
 use Rattle.bqn_parse.specs.Grouping.{settled, settled_by}
 use Rattle.bqn_parse.specs.Views.{when}
-use Rattle.bqn_parse.specs.declared.following.Behind.{Behind}
-use Rattle.bqn_parse.specs.declared.following.Behind.TheVariants.{Asks, Draws, Else}
+use Rattle.bqn_parse.specs.declared.reading.following.Behind.{Behind}
+use Rattle.bqn_parse.specs.declared.reading.following.Behind.TheVariants.{Asks, Draws, Else}
 use Rattle.bqn_parse.proofs.Fused.{units_if-row, plain-now, aimed-now}
 
 -- One more part.
@@ -70,7 +70,7 @@ at-same r s y (Wrong ∷ items) e o = refl
 at-same r s y (Joining ∷ items) e o = absurd (cc)
 at-same r s y (Selecting ∷ items) e o = absurd (cc)
 
--- a part that is no modifier ends the operand in front of it
+-- a part that is no modifier ends the operand before it
 bind-same : (g : Tag) (us : List Unit') (x y : Part) (uses : List Use) → is_no_modifier g ≡ true → bind_part g (unit_of x uses ∷ us) Free y ≡ bind_part g us (Bound x uses) y
 bind-same tags.Subject us x y uses e = refl
 bind-same tags.Function us x y uses e = refl

@@ -11,44 +11,44 @@ use Rattle.bqn_syntax.specs.grammar.Items.{Item, Wrong}
 use Rattle.bqn_syntax.specs.grammar.Parsing as parsing
 use Rattle.bqn_parse.specs.declared.error.ParseError.{ParseError}
 use Rattle.bqn_parse.specs.declared.error.ParseError.TheVariants.{Refused, Memory}
-use Rattle.bqn_parse.specs.declared.level.Level.{Level}
-use Rattle.bqn_parse.specs.Walking.{around_shown, level_shown, Moves}
+use Rattle.bqn_parse.specs.declared.open_bracket.OpenBracket.{OpenBracket}
+use Rattle.bqn_parse.specs.Walking.{around_shown, bracket_shown, Moves}
 
--- what the innermost level answers, the walk does
-pub goes-on : {X : Type 0} (outer : List parsing.Level) (answer : Result parsing.Level Refusal) (new : parsing.Level) (result : Result X ParseError) → Moves answer new result → Moves (parsing.go_on outer answer) (parsing.levels new outer) result
+-- what the innermost bracket answers, the walk does
+pub goes-on : {X : Type 0} (outer : List parsing.OpenBracket) (answer : Result parsing.OpenBracket Refusal) (new : parsing.OpenBracket) (result : Result X ParseError) → Moves answer new result → Moves (parsing.go_on outer answer) (parsing.open_brackets new outer) result
 goes-on outer answer new (Ok done) moves = ap (parsing.go_on outer) moves
 goes-on outer answer new (Err (Refused r)) moves = ap (parsing.go_on outer) moves
 goes-on outer answer new (Err Memory) moves = tt
 
--- the same, where the innermost level was read in this place
-pub goes-on-at : {X : Type 0} (tokens : List Token) (outer : List parsing.Level) (f : parsing.Level → Result parsing.Level Refusal) (read now : Level) (new : parsing.Level) (result : Result X ParseError) → read ≡ now → Moves (f (level_shown tokens read)) new result → Moves (parsing.go_on outer (f (level_shown tokens now))) (parsing.levels new outer) result
-goes-on-at {X} tokens outer f read now new result same moves = goes-on outer (f (level_shown tokens now)) new result (subst (λ (l : Level). Moves (f (level_shown tokens l)) new result) same moves)
+-- the same, where the innermost bracket was read in this place
+pub goes-on-at : {X : Type 0} (tokens : List Token) (outer : List parsing.OpenBracket) (f : parsing.OpenBracket → Result parsing.OpenBracket Refusal) (read now : OpenBracket) (new : parsing.OpenBracket) (result : Result X ParseError) → read ≡ now → Moves (f (bracket_shown tokens read)) new result → Moves (parsing.go_on outer (f (bracket_shown tokens now))) (parsing.open_brackets new outer) result
+goes-on-at {X} tokens outer f read now new result same moves = goes-on outer (f (bracket_shown tokens now)) new result (subst (λ (l : OpenBracket). Moves (f (bracket_shown tokens l)) new result) same moves)
 
 length-each : {A B : Type 0} (f : A → B) (xs : List A) → length (map f xs) ≡ length xs
 length-each f [] = refl
 length-each f (x ∷ xs) = ap (λ (n : ℕ). suc n) (length-each f xs)
 
-pub length-outer : (tokens : List Token) (outer : List (Box Level Global)) → length (around_shown tokens outer) ≡ length outer
-length-outer tokens outer = length-each (λ l. level_shown tokens l.value) (reverse outer) ∙ length-reverse outer
+pub length-outer : (tokens : List Token) (outer : List (Box OpenBracket Global)) → length (around_shown tokens outer) ≡ length outer
+length-outer tokens outer = length-each (λ l. bracket_shown tokens l.value) (reverse outer) ∙ length-reverse outer
 
-pub pushed-shown : (tokens : List Token) (outer : List (Box Level Global)) (around : Box Level Global) → around_shown tokens (outer ++ around ∷ []) ≡ level_shown tokens around.value ∷ around_shown tokens outer
-pushed-shown tokens outer around = ap (map (λ (l : Box Level Global). level_shown tokens l.value)) (reverse-append outer (around ∷ []))
+pub pushed-shown : (tokens : List Token) (outer : List (Box OpenBracket Global)) (around : Box OpenBracket Global) → around_shown tokens (outer ++ around ∷ []) ≡ bracket_shown tokens around.value ∷ around_shown tokens outer
+pushed-shown tokens outer around = ap (map (λ (l : Box OpenBracket Global). bracket_shown tokens l.value)) (reverse-append outer (around ∷ []))
 
 pub ruleset open_laws = (length-outer, pushed-shown)
 
-opened-few : (i : Inside) (at : List Token) (place : Place) (so : parsing.Levels) → length so.outer < 128 → parsing.opened i at place so ≡ Ok (parsing.levels (parsing.fresh i place) (parsing.begun at so.level ∷ so.outer))
+opened-few : (i : Inside) (at : List Token) (place : Place) (so : parsing.OpenBrackets) → length so.outer < 128 → parsing.opened i at place so ≡ Ok (parsing.open_brackets (parsing.fresh i place) (parsing.begun at so.inner ∷ so.outer))
 opened-few i at place so few = search rules
 
--- a new level stands in what it was opened in
-pub opened-shown : (i : Inside) (at : List Token) (place : Place) (so : parsing.Levels) (inner : parsing.Level) (around : List parsing.Level) → length so.outer < 128 → inner ≡ parsing.fresh i place → around ≡ parsing.begun at so.level ∷ so.outer → parsing.opened i at place so ≡ Ok (parsing.levels inner around)
+-- a new bracket stands in what it was opened in
+pub opened-shown : (i : Inside) (at : List Token) (place : Place) (so : parsing.OpenBrackets) (inner : parsing.OpenBracket) (around : List parsing.OpenBracket) → length so.outer < 128 → inner ≡ parsing.fresh i place → around ≡ parsing.begun at so.inner ∷ so.outer → parsing.opened i at place so ≡ Ok (parsing.open_brackets inner around)
 opened-shown i at place so inner around few inner_is around_is =
     opened-few i at place so few
-    ∙ ap (λ (l : parsing.Level). Ok (parsing.levels l (parsing.begun at so.level ∷ so.outer))) (sym inner_is)
-    ∙ ap (λ (ls : List parsing.Level). Ok (parsing.levels inner ls)) (sym around_is)
+    ∙ ap (λ (l : parsing.OpenBracket). Ok (parsing.open_brackets l (parsing.begun at so.inner ∷ so.outer))) (sym inner_is)
+    ∙ ap (λ (ls : List parsing.OpenBracket). Ok (parsing.open_brackets inner ls)) (sym around_is)
 
--- Marks that fit only in some levels.
+-- Marks that fit only in some brackets.
 
-pub separated-elsewhere : (i : Inside) (tokens : List Token) (place : Place) (so : parsing.Levels) → (i ≡ inside.Parens → ⊥) → parsing.separated i tokens place so ≡ parsing.go_on so.outer (parsing.ended place so.level)
+pub separated-elsewhere : (i : Inside) (tokens : List Token) (place : Place) (so : parsing.OpenBrackets) → (i ≡ inside.Parens → ⊥) → parsing.separated i tokens place so ≡ parsing.go_on so.outer (parsing.ended place so.inner)
 separated-elsewhere inside.Program tokens place so not = refl
 separated-elsewhere inside.Parens tokens place so not = absurd (not refl)
 separated-elsewhere inside.List tokens place so not = refl
@@ -57,7 +57,7 @@ separated-elsewhere inside.HeaderPattern tokens place so not = refl
 separated-elsewhere inside.Merge tokens place so not = refl
 separated-elsewhere inside.Block tokens place so not = refl
 
-pub semicolon-elsewhere : (i : Inside) (tokens : List Token) (place : Place) (so : parsing.Levels) → (i ≡ inside.Block → ⊥) → parsing.semicolon i tokens place so ≡ parsing.taken Wrong tokens so
+pub semicolon-elsewhere : (i : Inside) (tokens : List Token) (place : Place) (so : parsing.OpenBrackets) → (i ≡ inside.Block → ⊥) → parsing.semicolon i tokens place so ≡ parsing.taken Wrong tokens so
 semicolon-elsewhere inside.Program tokens place so not = refl
 semicolon-elsewhere inside.Parens tokens place so not = refl
 semicolon-elsewhere inside.List tokens place so not = refl
@@ -66,7 +66,7 @@ semicolon-elsewhere inside.HeaderPattern tokens place so not = refl
 semicolon-elsewhere inside.Merge tokens place so not = refl
 semicolon-elsewhere inside.Block tokens place so not = absurd (not refl)
 
-pub question-elsewhere : (i : Inside) (tokens : List Token) (place : Place) (so : parsing.Levels) → (i ≡ inside.Block → ⊥) → parsing.question i tokens place so ≡ parsing.taken Wrong tokens so
+pub question-elsewhere : (i : Inside) (tokens : List Token) (place : Place) (so : parsing.OpenBrackets) → (i ≡ inside.Block → ⊥) → parsing.question i tokens place so ≡ parsing.taken Wrong tokens so
 question-elsewhere inside.Program tokens place so not = refl
 question-elsewhere inside.Parens tokens place so not = refl
 question-elsewhere inside.List tokens place so not = refl
@@ -75,7 +75,7 @@ question-elsewhere inside.HeaderPattern tokens place so not = refl
 question-elsewhere inside.Merge tokens place so not = refl
 question-elsewhere inside.Block tokens place so not = absurd (not refl)
 
-pub colon-elsewhere : (i : Inside) (tokens : List Token) (place : Place) (so : parsing.Levels) → (i ≡ inside.Block → ⊥) → parsing.colon i tokens place so ≡ parsing.taken Wrong tokens so
+pub colon-elsewhere : (i : Inside) (tokens : List Token) (place : Place) (so : parsing.OpenBrackets) → (i ≡ inside.Block → ⊥) → parsing.colon i tokens place so ≡ parsing.taken Wrong tokens so
 colon-elsewhere inside.Program tokens place so not = refl
 colon-elsewhere inside.Parens tokens place so not = refl
 colon-elsewhere inside.List tokens place so not = refl
@@ -97,11 +97,11 @@ piece-none tokens first index within order = ap (λ (n : ℕ). take n (drop firs
 
 pub ruleset piece_laws = (piece-some, piece-none)
 
-pub headed-some : (items : List Item) (tokens : List Token) (place : Place) (l : parsing.Level) → 0 < length items → parsing.headed_by items tokens place l ≡ parsing.headed (parsing.is_first_piece l.header l.statements) tokens place l
+pub headed-some : (items : List Item) (tokens : List Token) (place : Place) (l : parsing.OpenBracket) → 0 < length items → parsing.headed_by items tokens place l ≡ parsing.headed (parsing.is_first_piece l.header l.statements) tokens place l
 headed-some [] tokens place l some = absurd (omega arith)
 headed-some (x ∷ xs) tokens place l some = refl
 
-pub headed-first : (items : List Item) (tokens : List Token) (place : Place) (l : parsing.Level) → 0 < length items → parsing.is_first_piece l.header l.statements ≡ true → parsing.headed_by items tokens place l ≡ parsing.headed true tokens place l
+pub headed-first : (items : List Item) (tokens : List Token) (place : Place) (l : parsing.OpenBracket) → 0 < length items → parsing.is_first_piece l.header l.statements ≡ true → parsing.headed_by items tokens place l ≡ parsing.headed true tokens place l
 headed-first items tokens place l some e = headed-some items tokens place l some ∙ ap (λ (b : Bool). parsing.headed b tokens place l) e
 
 pub ruleset head_laws = (headed-some, headed-first)

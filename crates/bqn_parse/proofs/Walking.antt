@@ -22,22 +22,22 @@ pub place-there : (tokens : List Token) (i : ℕ) (place : Place) (token : Token
 place-there tokens i place token inside is = ap (λ (ts : List Token). parsing.place_of_first (Some ts) place) (drop-cons tokens i token inside) ∙ ap (λ (t : Token). t.place) (sym is)
 
 -- a piece that has a form
-pub well-made : {A X : Type 0} (place : Place) (and : A → parsing.Level → parsing.Level) (answer : Option A) (x : A) (l new : parsing.Level) (result : Result X ParseError) → Some x ≡ answer → Moves (Ok (and x l)) new result → Moves (parsing.well place and answer l) new result
+pub well-made : {A X : Type 0} (place : Place) (and : A → parsing.OpenBracket → parsing.OpenBracket) (answer : Option A) (x : A) (l new : parsing.OpenBracket) (result : Result X ParseError) → Some x ≡ answer → Moves (Ok (and x l)) new result → Moves (parsing.well place and answer l) new result
 well-made {A} {X} place and answer x l new result e moves = subst (λ (o : Option A). Moves (parsing.well place and o l) new result) e moves
 
 pub ruleset place_laws = (place-past, place-there)
 
-pub ended-empty : (l : parsing.Level) (place : Place) → l.items ≡ [] → parsing.ended place l ≡ parsing.no_piece l.inside place l
+pub ended-empty : (l : parsing.OpenBracket) (place : Place) → l.items ≡ [] → parsing.ended place l ≡ parsing.no_piece l.inside place l
 ended-empty l place e = ap (λ (xs : List Item). parsing.ended_by xs place l) e
 
-pub ended-some : (l : parsing.Level) (place : Place) → 0 < length l.items → parsing.ended place l ≡ parsing.judged l.inside place l
+pub ended-some : (l : parsing.OpenBracket) (place : Place) → 0 < length l.items → parsing.ended place l ≡ parsing.judged l.inside place l
 ended-some l place some = at l.items some
   where
     at : (xs : List Item) → 0 < length xs → parsing.ended_by xs place l ≡ parsing.judged l.inside place l
     at [] none = absurd (omega arith)
     at (x ∷ xs) some = refl
 
-pub asked-some : (l : parsing.Level) (place : Place) (xs : List Item) → 0 < length xs → parsing.asked xs place l ≡ parsing.well place parsing.and_statement (piece_predicate l.items) l
+pub asked-some : (l : parsing.OpenBracket) (place : Place) (xs : List Item) → 0 < length xs → parsing.asked xs place l ≡ parsing.well place parsing.and_statement (piece_predicate l.items) l
 asked-some l place [] none = absurd (omega arith)
 asked-some l place (x ∷ xs) some = refl
 

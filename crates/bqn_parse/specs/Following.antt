@@ -1,11 +1,11 @@
--- What stands behind an item.
+-- What stands after an item.
 use Rattle.std.specs.Prelude.{Bool, true, false, List, [], ◌∷◌}
 use Rattle.bqn_syntax.specs.declared.sort.Tag.{Tag}
 use Rattle.bqn_syntax.specs.declared.sort.Tag.TheVariants as tags
 use Rattle.bqn_syntax.specs.grammar.Items.{OfPart, OfList, Item, Standing, Drawn, Joining, Selecting, Wrong}
 use Rattle.bqn_syntax.specs.grammar.Sorts.{tag}
-use Rattle.bqn_parse.specs.declared.following.Behind.{Behind}
-use Rattle.bqn_parse.specs.declared.following.Behind.TheVariants.{Asks, Draws, Else}
+use Rattle.bqn_parse.specs.declared.reading.following.Behind.{Behind}
+use Rattle.bqn_parse.specs.declared.reading.following.Behind.TheVariants.{Asks, Draws, Else}
 
 abbrev pub behind_by : Item → Behind
 behind_by Joining = Asks
@@ -26,7 +26,7 @@ is_no_modifier tags.Mod1 = false
 is_no_modifier tags.Mod2 = false
 is_no_modifier tags.Nothing = true
 
--- whether an item, in front of which an operand stands and behind which this does, is surely no modifier
+-- whether an item, before which an operand stands and after which this does, is surely no modifier
 abbrev pub ends_by : Item → Behind → Bool
 ends_by (Standing (OfPart x)) Asks = false
 ends_by (Standing (OfPart x)) Draws = is_no_modifier (tag x)
@@ -37,7 +37,7 @@ ends_by Joining behind = false
 ends_by Selecting behind = false
 ends_by Wrong behind = false
 
--- whether these items surely end the operand in front of them
+-- whether these items surely end the operand before them
 abbrev pub ends_before : List Item → Bool
 ends_before [] = true
 ends_before (item ∷ items) = ends_by item (behind_of items)

@@ -2,20 +2,20 @@
 use Rattle.std.specs.Prelude.{List, [], ◌∷◌, map}
 use Rattle.bqn_syntax.specs.grammar.Trees.{Part, Use, use_of}
 use Rattle.bqn_syntax.specs.grammar.Units as units
-use Rattle.bqn_parse.specs.declared.units.Binding.{Binding}
-use Rattle.bqn_parse.specs.declared.units.Binding.TheVariants as binding
-use Rattle.bqn_parse.specs.declared.units.Grouping.{Grouping}
+use Rattle.bqn_parse.specs.declared.reading.grouping.Binding.{Binding}
+use Rattle.bqn_parse.specs.declared.reading.grouping.Binding.TheVariants as binding
+use Rattle.bqn_parse.specs.declared.reading.grouping.Grouping.{Grouping}
 use Rattle.bqn_parse.specs.declared.draft.Function.{Function}
 use Rattle.bqn_parse.specs.declared.draft.Function.TheVariants as function
 use Rattle.bqn_parse.specs.Drafts.{draft_of}
 use Rattle.bqn_parse.specs.Views.{backward}
 
--- the part that modifiers stand behind
+-- the part that modifiers stand after
 abbrev pub operand_shown : Function → Part
 operand_shown (function.Plain x) = draft_of x
 operand_shown (function.Modified m) = draft_of m.first
 
--- the modifiers behind it
+-- the modifiers after it
 abbrev pub uses_shown : Function → List Use
 uses_shown (function.Plain x) = []
 uses_shown (function.Modified m) = map use_of m.uses.items

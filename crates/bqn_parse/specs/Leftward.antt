@@ -4,8 +4,8 @@ use Rattle.bqn_syntax.specs.declared.tree.Arrow.TheVariants as arrow
 use Rattle.bqn_syntax.specs.grammar.Expressions.{steps_of}
 use Rattle.bqn_syntax.specs.grammar.Trees.{Step, Steps, and_steps, steps}
 use Rattle.bqn_syntax.specs.grammar.Units.{Unit', Arrow'}
-use Rattle.bqn_parse.specs.declared.steps.Left.{Left}
-use Rattle.bqn_parse.specs.declared.steps.Left.TheVariants as left
+use Rattle.bqn_parse.specs.declared.reading.value_steps.Left.{Left}
+use Rattle.bqn_parse.specs.declared.reading.value_steps.Left.TheVariants as left
 use Rattle.bqn_parse.specs.declared.unit.Unit.{Unit as CodeUnit}
 use Rattle.bqn_parse.specs.Views.{unit_shown}
 
@@ -14,7 +14,7 @@ abbrev pub ahead : Option CodeUnit → List Unit' → List Unit'
 ahead None us = []
 ahead (Some u) us = unit_shown u ∷ us
 
--- behind no next unit none is left
+-- after no next unit none is left
 abbrev pub rest_of : Option CodeUnit → List Unit' → List Unit'
 rest_of None us = []
 rest_of (Some u) us = us

@@ -18,7 +18,7 @@ stacked all = map ahead_shown (reverse all)
 abbrev pub looks_shown : Looks → plain.Looks
 looks_shown l = record { here = ahead_shown l.here; outer = stacked l.outer.items }
 
--- these, and in front of them this one where such a token opens a bracket
+-- these, and before them this one where such a token opens a bracket
 abbrev pub with_opening : Sort → plain.Ahead → List plain.Ahead → List plain.Ahead
 with_opening (Opens b) first all = first ∷ all
 with_opening (Closes b) first all = all
@@ -32,12 +32,12 @@ with_opening Asks first all = all
 with_opening Skips first all = all
 with_opening Stands first all = all
 
--- for each opening bracket what stands behind the one that closes it
+-- for each opening bracket what stands after the one that closes it
 abbrev pub openings : List Token → List plain.Ahead
 openings [] = []
 openings (t ∷ tokens) = with_opening (sort_of t.kind) (plain.behind_group tokens) (openings tokens)
 
--- what stands behind the bracket that such a token opens, if it opens one: it comes first
+-- what stands after the bracket that such a token opens, if it opens one: it comes first
 abbrev pub ahead_by : Sort → List plain.Ahead → plain.Ahead
 ahead_by (Opens b) all = plain.first_of all
 ahead_by (Closes b) all = plain.ahead false false false
@@ -51,7 +51,7 @@ ahead_by Asks all = plain.ahead false false false
 ahead_by Skips all = plain.ahead false false false
 ahead_by Stands all = plain.ahead false false false
 
--- what is left for the tokens behind such a one
+-- what is left for the tokens after such a one
 abbrev pub left_behind : Sort → List plain.Ahead → List plain.Ahead
 left_behind (Opens b) all = plain.rest_of all
 left_behind (Closes b) all = all

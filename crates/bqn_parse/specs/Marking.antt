@@ -11,7 +11,7 @@ seen_shown s = record { args = s.args; one = s.one; one_self = s.one_self; two =
 abbrev pub at_most_one : ℕ → ℕ
 at_most_one n = if nat_le 1 n then 1 else 0
 
--- what tells the class of a block as well: the name and the argument of a header, and whether a statement stands behind the
+-- what tells the class of a block as well: the name and the argument of a header, and whether a statement stands after the
 -- last predicate
 abbrev pub brief_header : Header → Header
 brief_header h = record { left = None; left_operand = None; own = h.own; right_operand = None; right = option_map (λ q. Skip h.own.place) h.right }

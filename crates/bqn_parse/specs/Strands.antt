@@ -4,10 +4,10 @@ use Rattle.std.specs.Option.{option_map}
 use Rattle.bqn_syntax.specs.grammar.Items as items
 use Rattle.bqn_syntax.specs.grammar.Trees.{Pattern}
 use Rattle.bqn_parse.specs.declared.item.Element.{Element}
-use Rattle.bqn_parse.specs.declared.pattern.Joined.{Joined}
-use Rattle.bqn_parse.specs.declared.terms.Reader.{Reader}
-use Rattle.bqn_parse.specs.declared.terms.Reading.{Reading}
-use Rattle.bqn_parse.specs.declared.terms.Reading.TheVariants as reading
+use Rattle.bqn_parse.specs.declared.reading.pattern.Joined.{Joined}
+use Rattle.bqn_parse.specs.declared.reading.terms.Reader.{Reader}
+use Rattle.bqn_parse.specs.declared.reading.terms.Reading.{Reading}
+use Rattle.bqn_parse.specs.declared.reading.terms.Reading.TheVariants as reading
 use Rattle.bqn_parse.specs.Drafts.{draft_of}
 use Rattle.bqn_parse.specs.Fused.{Piece, piece}
 use Rattle.bqn_parse.specs.Grouping.{grouping_shown}
@@ -16,7 +16,7 @@ use Rattle.bqn_parse.specs.Views.{element_of}
 abbrev pub elements_of : List Element → List items.Element
 elements_of all = map element_of all
 
--- what is being read, behind these elements
+-- what is being read, after these elements
 abbrev pub reading_of : List items.Element → Reading → items.Reading
 reading_of joined reading.Between = items.Between
 reading_of joined (reading.At x) = items.At joined (element_of x)
@@ -26,7 +26,7 @@ reading_of joined (reading.Selected x) = items.Selected joined (draft_of x)
 abbrev pub reader_of : Reader → Piece
 reader_of reader = piece (grouping_shown reader.grouping) (reading_of (elements_of reader.joined.items) reader.reading)
 
--- elements that are joined to what follows, and the element behind them
+-- elements that are joined to what follows, and the element after them
 pub record Strung : Type 0 where
   pub elements : List items.Element
   pub last : Option items.Element
@@ -50,7 +50,7 @@ one_more so (items.Standing y) = one_element so.elements so.last y
 one_more so items.Joining = one_joiner so.elements so.last
 one_more so _ = None
 
--- these elements, each with a joiner behind it, before other items
+-- these elements, each with a joiner after it, before other items
 abbrev pub strung : List items.Element → List items.Item → List items.Item
 strung [] rest = rest
 strung (x ∷ xs) rest = items.Standing x ∷ items.Joining ∷ strung xs rest

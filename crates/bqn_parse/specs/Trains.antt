@@ -9,8 +9,8 @@ use Rattle.bqn_syntax.specs.declared.tree.Derived.{Derived as CodeDerived}
 use Rattle.bqn_syntax.specs.grammar.Expressions as expressions
 use Rattle.bqn_syntax.specs.grammar.Trees.{Expr, Train, Deriveds, deriveds, derived_of}
 use Rattle.bqn_syntax.specs.grammar.Units.{Unit'}
-use Rattle.bqn_parse.specs.declared.train.Turn.{Turn}
-use Rattle.bqn_parse.specs.declared.train.Turn.TheVariants as turn
+use Rattle.bqn_parse.specs.declared.reading.train.Turn.{Turn}
+use Rattle.bqn_parse.specs.declared.reading.train.Turn.TheVariants as turn
 
 -- the targets, where one more was found
 abbrev pub targets_if : Bool → Tag → List (Token × Arrow) → List Unit' → Option (List (Token × Arrow))

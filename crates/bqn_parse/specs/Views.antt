@@ -40,7 +40,7 @@ unit_shown (unit.Alone x) = units.Alone (draft_of x)
 unit_shown (unit.Arrow a) = units.Arrow' a
 unit_shown (unit.Aim q) = units.Aim (pattern_of q)
 
--- the last one first, in front of others
+-- the last one first, before others
 abbrev pub backward_onto : List CodeUnit → List units.Unit' → List units.Unit'
 backward_onto [] so = so
 backward_onto (u ∷ us) so = backward_onto us (unit_shown u ∷ so)
@@ -54,7 +54,7 @@ abbrev pub when : {A : Type 0} → Bool → A → Option A
 when true shown = Some shown
 when false shown = None
 
--- the tree that is given is this, or the refusal is; want of memory says nothing
+-- the tree that is given is this, or the refusal is; out of memory says nothing
 abbrev pub Gives : Result Stmts Refusal → Result Tree ParseError → Type 0
 Gives answer (Ok tree) = answer ≡ Ok (tree_of tree)
 Gives answer (Err (Refused r)) = answer ≡ Err r

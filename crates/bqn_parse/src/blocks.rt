@@ -10,7 +10,7 @@ ghost use Rattle.bqn_parse.specs.Walking.{Made};
 use crate::draft::{Draft, boxed};
 use crate::error::ParseError;
 use crate::item::Element;
-use crate::marks::{has_predicate, in_stmts, since_predicate};
+use crate::marks::{has_predicate, seen_in_stmts, since_predicate};
 use bqn_base::{Memory, Place, Refusal, Row};
 use bqn_headers::{BodyMarks, block_class};
 use bqn_syntax::{BlockTree, BodyTree, Class, Header, Pattern};
@@ -46,7 +46,7 @@ fn marks(body: &BodyTree) -> Result<BodyMarks, Memory>
         Some(header) => Some(brief_header(header)?),
     };
     let statements = body.statements.list();
-    let seen = in_stmts(statements);
+    let seen = seen_in_stmts(statements);
     Ok(BodyMarks {
         header,
         predicate: has_predicate(statements),
@@ -82,10 +82,11 @@ fn class_of(alloc: Global, all: &[BodyTree]) -> Result<Option<Class>, ParseError
 ///
 /// # Errors
 ///
-/// `BadBlock` where the bodies break a rule, and want of memory.
+/// `BadBlock` where the bodies break a rule, and out of memory.
 #[tactic(auto, using(bqn_syntax::specs::grammar::TreeEquations::tree_equations))]
 pub fn block<'t>(alloc: Global, place: Place, all: Vec<BodyTree>) -> Result<Element<'t>, ParseError>
-    ensures { Made (parsing.block_part place (bodies (map body_of all.items)) (classes.class_of (classes.marks_in (bodies (map body_of all.items))))) element_of result }
+    ensures { Made (parsing.block_part place (bodies (map body_of all.items))
+        (classes.class_of (classes.marks_in (bodies (map body_of all.items))))) element_of result }
 {
     match class_of(alloc, &all)? {
         None => Err(ParseError::Refused(Refusal::BadBlock(place))),

@@ -5,15 +5,15 @@ ghost use Rattle.bqn_syntax.specs.declared.sort.Inside.TheVariants as inside;
 ghost use Rattle.bqn_syntax.specs.grammar.Parsing as parsing;
 ghost use Rattle.bqn_syntax.specs.grammar.Trees.{expr_of};
 ghost use Rattle.bqn_parse.specs.Views.{element_of};
-ghost use Rattle.bqn_parse.specs.Walking.{around_shown, level_shown, walk_shown, Made, Moves};
+ghost use Rattle.bqn_parse.specs.Walking.{around_shown, bracket_shown, walk_shown, Made, Moves};
 
 use crate::blocks::block;
 use crate::draft::{Draft, boxed};
-use crate::ends::{push, taken};
+use crate::growth::{push, taken};
 use crate::error::ParseError;
 use crate::item::{Element, Item};
 use crate::judge::end;
-use crate::level::{Level, Walk};
+use crate::open_bracket::{OpenBracket, Walk};
 use bqn_base::{Place, Refusal, Row};
 use bqn_syntax::{Bracket, Expr, Inside, Pattern, Token};
 use std::alloc::Global;
@@ -64,62 +64,63 @@ fn merge<'t>(alloc: Global, place: Place, pieces: &mut Vec<Expr>) -> Result<Elem
     Ok(Element::Part(Draft::Merge(all)))
 }
 
-/// The block that a level is; its last body ends.
-fn whole_block<'t>(alloc: Global, level: &mut Level<'t>) -> Result<Element<'t>, ParseError>
-    ensures { (tokens : List Token) (place : Place) → Made (parsing.whole inside.Block place (level_shown tokens level.old)) element_of result }
+/// The block that an open brace is; its last body ends.
+fn whole_block<'t>(alloc: Global, inner: &mut OpenBracket<'t>) -> Result<Element<'t>, ParseError>
+    ensures { (tokens : List Token) (place : Place) → Made (parsing.whole inside.Block place (bracket_shown tokens inner.old)) element_of result }
 {
-    level.end_body(alloc)?;
-    let done = taken(alloc, &mut level.done)?;
-    block(alloc, level.opened, done)
+    inner.end_body(alloc)?;
+    let done = taken(alloc, &mut inner.done)?;
+    block(alloc, inner.opened, done)
 }
 
-/// What a level is as one element, where it closes at this place.
+/// What an open bracket is as one element, where it closes at this place.
 #[tactic(auto, using(bqn_syntax::specs::grammar::TreeEquations::tree_equations))]
-fn whole<'t>(alloc: Global, place: Place, level: &mut Level<'t>) -> Result<Element<'t>, ParseError>
-    ensures { (tokens : List Token) → Made (parsing.whole level.old.inside place (level_shown tokens level.old)) element_of result }
+fn whole<'t>(alloc: Global, place: Place, inner: &mut OpenBracket<'t>) -> Result<Element<'t>, ParseError>
+    ensures { (tokens : List Token) → Made (parsing.whole inner.old.inside place (bracket_shown tokens inner.old)) element_of result }
 {
-    match level.inside {
-        Inside::Parens => parens(alloc, place, &mut level.expressions),
+    match inner.inside {
+        Inside::Parens => parens(alloc, place, &mut inner.expressions),
         Inside::List => {
-            let pieces = taken(alloc, &mut level.expressions)?;
+            let pieces = taken(alloc, &mut inner.expressions)?;
             let all = boxed(alloc, Row::new(pieces))?;
             Ok(Element::Part(Draft::List(all)))
         }
-        Inside::Merge => merge(alloc, place, &mut level.expressions),
+        Inside::Merge => merge(alloc, place, &mut inner.expressions),
         Inside::Pattern | Inside::HeaderPattern => {
-            let pieces = taken(alloc, &mut level.targets)?;
+            let pieces = taken(alloc, &mut inner.targets)?;
             let all = boxed(alloc, Pattern::List(Row::new(pieces)))?;
             Ok(Element::List(all))
         }
-        Inside::Block => whole_block(alloc, level),
+        Inside::Block => whole_block(alloc, inner),
         Inside::Program => Err(ParseError::Refused(Refusal::Bracket(place))),
     }
 }
 
-/// The last piece of a level ends, and the level closes at the same place.
-fn close_level<'t>(
+/// The last piece of a bracket ends, and the bracket closes at the same place.
+fn close_bracket<'t>(
     alloc: Global,
     tokens: &[Token],
     place: Place,
-    level: &mut Level<'t>,
+    inner: &mut OpenBracket<'t>,
 ) -> Result<Element<'t>, ParseError>
-    ensures { Made (parsing.whole_of place (parsing.ended place (level_shown tokens.now level.old))) element_of result }
+    ensures { Made (parsing.whole_of place (parsing.ended place (bracket_shown tokens.now inner.old))) element_of result }
 {
-    end(alloc, tokens, place, level)?;
-    whole(alloc, place, level)
+    end(alloc, tokens, place, inner)?;
+    whole(alloc, place, inner)
 }
 
-/// An element stands in the level around, which is now the innermost one.
+/// An element stands in the bracket around, which is now the innermost one.
 #[tactic(auto, using(crate::proofs::Closing::hand_laws))]
 fn hand<'t>(place: Place, walk: &mut Walk<'t>, element: Element<'t>) -> Result<(), ParseError>
-    ensures { (tokens : List Token) → Moves (parsing.handed place (Ok (element_of element.entry)) (around_shown tokens walk.old.outer.items)) (walk_shown tokens walk.new) result }
+    ensures { (tokens : List Token) → Moves (parsing.handed place (Ok (element_of element.entry)) (around_shown tokens walk.old.outer.items))
+        (walk_shown tokens walk.new) result }
 {
     let Some(around) = walk.outer.pop() else {
         return Err(ParseError::Refused(Refusal::Bracket(place)));
     };
-    let closed = mem::replace(&mut walk.level, around);
+    let closed = mem::replace(&mut walk.inner, around);
     push(&mut walk.spare, closed)?;
-    walk.level.and_item(Item::Standing(element))?;
+    walk.inner.and_item(Item::Standing(element))?;
     Ok(())
 }
 
@@ -131,11 +132,12 @@ pub fn close<'t>(
     bracket: Bracket,
     walk: &mut Walk<'t>,
 ) -> Result<(), ParseError>
-    ensures { Moves (parsing.closed (parsing.closes bracket walk.old.level.value.inside) place (walk_shown tokens.now walk.old)) (walk_shown tokens.now walk.new) result }
+    ensures { Moves (parsing.closed (parsing.closes bracket walk.old.inner.value.inside) place (walk_shown tokens.now walk.old))
+        (walk_shown tokens.now walk.new) result }
 {
-    if !closes(bracket, walk.level.inside) {
+    if !closes(bracket, walk.inner.inside) {
         return Err(ParseError::Refused(Refusal::Bracket(place)));
     }
-    let element = close_level(alloc, tokens, place, &mut walk.level)?;
+    let element = close_bracket(alloc, tokens, place, &mut walk.inner)?;
     hand(place, walk, element)
 }

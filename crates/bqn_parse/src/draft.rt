@@ -4,7 +4,7 @@ ghost use Rattle.bqn_syntax.specs.grammar.Trees.{derived_of, part_of};
 ghost use Rattle.bqn_syntax.specs.grammar.Sorts.{tag};
 ghost use Rattle.bqn_parse.specs.Drafts.{draft_of, field_of, function_of, modified_of};
 
-use crate::ends::shrunk;
+use crate::growth::shrunk;
 use crate::tags::{tag_of_class, tag_of_expr, tag_of_last};
 use bqn_base::{Memory, Row};
 use bqn_syntax::{BlockTree, Derived, Expr, ModUse, Part, Tag, Token};
@@ -32,7 +32,7 @@ pub enum Draft<'t> {
     Strand(Boxed<Row<Part>>),
 }
 
-/// A part and the modifiers behind it, not in the tree yet.
+/// A part and the modifiers after it, not in the tree yet.
 #[derive(Drop)]
 pub struct Modified<'t> {
     pub first: Draft<'t>,

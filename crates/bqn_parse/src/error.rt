@@ -4,7 +4,7 @@ ghost use Rattle.bqn_parse.specs.declared.error.ParseError.TheVariants as error;
 use bqn_base::{Memory, Refusal};
 use std::alloc::{AllocError, AllocFailed};
 
-/// Why a token list has no tree: it is refused, or memory is wanting.
+/// Why a token list has no tree: it is refused, or memory runs out.
 #[derive(Clone, Copy, Debug, PartialEq, Eq)]
 pub enum ParseError {
     Refused(Refusal),

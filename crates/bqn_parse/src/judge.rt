@@ -4,12 +4,12 @@ ghost use Rattle.bqn_parse.specs.declared.error.ParseError.TheVariants as error;
 ghost use Rattle.bqn_syntax.specs.grammar.Expressions as expressions;
 ghost use Rattle.bqn_syntax.specs.grammar.Items as items;
 ghost use Rattle.bqn_syntax.specs.grammar.Parsing as parsing;
-ghost use Rattle.bqn_parse.specs.Walking.{from_first, level_shown, Moves};
+ghost use Rattle.bqn_parse.specs.Walking.{from_first, bracket_shown, Moves};
 
 use crate::error::ParseError;
-use crate::level::Level;
-use crate::pattern::pattern;
-use crate::pieces::{piece_expression, piece_predicate, piece_statement};
+use crate::open_bracket::OpenBracket;
+use crate::reading::pattern::pattern;
+use crate::reading::pieces::{piece_expression, piece_predicate, piece_statement};
 use bqn_base::{Place, Refusal};
 use bqn_syntax::{Inside, Token};
 use std::alloc::Global;
@@ -29,10 +29,10 @@ pub fn first_place(tokens: &[Token], first: Option<usize>, place: Place) -> Plac
 }
 
 /// A piece that has no form is refused at its first token.
-pub fn formless(tokens: &[Token], place: Place, level: &Level<'_>) -> ParseError
-    ensures { result ≡ error.Refused (refusal.Grammar (parsing.place_of_first (from_first tokens.now level.now.first) place)) }
+pub fn formless(tokens: &[Token], place: Place, inner: &OpenBracket<'_>) -> ParseError
+    ensures { result ≡ error.Refused (refusal.Grammar (parsing.place_of_first (from_first tokens.now inner.now.first) place)) }
 {
-    ParseError::Refused(Refusal::Grammar(first_place(tokens, level.first, place)))
+    ParseError::Refused(Refusal::Grammar(first_place(tokens, inner.first, place)))
 }
 
 /// The piece that is being read is a statement.
@@ -40,13 +40,14 @@ fn judge_statement<'t>(
     alloc: Global,
     tokens: &[Token],
     place: Place,
-    level: &mut Level<'t>,
+    inner: &mut OpenBracket<'t>,
 ) -> Result<(), ParseError>
-    ensures { Moves (parsing.well place parsing.and_statement (expressions.piece_statement (level_shown tokens.now level.old).items) (level_shown tokens.now level.old)) (level_shown tokens.now level.new) result }
+    ensures { Moves (parsing.well place parsing.and_statement (expressions.piece_statement (bracket_shown tokens.now inner.old).items)
+        (bracket_shown tokens.now inner.old)) (bracket_shown tokens.now inner.new) result }
 {
-    match piece_statement(alloc, &mut level.items, &mut level.units)? {
-        None => Err(formless(tokens, place, level)),
-        Some(s) => level.and_statement(s),
+    match piece_statement(alloc, &mut inner.items, &mut inner.units)? {
+        None => Err(formless(tokens, place, inner)),
+        Some(s) => inner.and_statement(s),
     }
 }
 
@@ -55,13 +56,14 @@ fn judge_predicate<'t>(
     alloc: Global,
     tokens: &[Token],
     place: Place,
-    level: &mut Level<'t>,
+    inner: &mut OpenBracket<'t>,
 ) -> Result<(), ParseError>
-    ensures { Moves (parsing.well place parsing.and_statement (expressions.piece_predicate (level_shown tokens.now level.old).items) (level_shown tokens.now level.old)) (level_shown tokens.now level.new) result }
+    ensures { Moves (parsing.well place parsing.and_statement (expressions.piece_predicate (bracket_shown tokens.now inner.old).items)
+        (bracket_shown tokens.now inner.old)) (bracket_shown tokens.now inner.new) result }
 {
-    match piece_predicate(alloc, &mut level.items, &mut level.units)? {
-        None => Err(formless(tokens, place, level)),
-        Some(s) => level.and_statement(s),
+    match piece_predicate(alloc, &mut inner.items, &mut inner.units)? {
+        None => Err(formless(tokens, place, inner)),
+        Some(s) => inner.and_statement(s),
     }
 }
 
@@ -70,13 +72,14 @@ fn judge_expression<'t>(
     alloc: Global,
     tokens: &[Token],
     place: Place,
-    level: &mut Level<'t>,
+    inner: &mut OpenBracket<'t>,
 ) -> Result<(), ParseError>
-    ensures { Moves (parsing.well place parsing.and_expression (expressions.piece_expression (level_shown tokens.now level.old).items) (level_shown tokens.now level.old)) (level_shown tokens.now level.new) result }
+    ensures { Moves (parsing.well place parsing.and_expression (expressions.piece_expression (bracket_shown tokens.now inner.old).items)
+        (bracket_shown tokens.now inner.old)) (bracket_shown tokens.now inner.new) result }
 {
-    match piece_expression(alloc, &mut level.items, &mut level.units)? {
-        None => Err(formless(tokens, place, level)),
-        Some(e) => level.and_expression(e),
+    match piece_expression(alloc, &mut inner.items, &mut inner.units)? {
+        None => Err(formless(tokens, place, inner)),
+        Some(e) => inner.and_expression(e),
     }
 }
 
@@ -85,14 +88,15 @@ fn judge_target<'t>(
     alloc: Global,
     tokens: &[Token],
     place: Place,
-    level: &mut Level<'t>,
+    inner: &mut OpenBracket<'t>,
     literals: bool,
 ) -> Result<(), ParseError>
-    ensures { Moves (parsing.well place parsing.and_target (items.piece_pattern literals (level_shown tokens.now level.old).items) (level_shown tokens.now level.old)) (level_shown tokens.now level.new) result }
+    ensures { Moves (parsing.well place parsing.and_target (items.piece_pattern literals (bracket_shown tokens.now inner.old).items)
+        (bracket_shown tokens.now inner.old)) (bracket_shown tokens.now inner.new) result }
 {
-    match pattern(alloc, literals, &mut level.items)? {
-        None => Err(formless(tokens, place, level)),
-        Some(q) => level.and_target(q),
+    match pattern(alloc, literals, &mut inner.items)? {
+        None => Err(formless(tokens, place, inner)),
+        Some(q) => inner.and_target(q),
     }
 }
 
@@ -101,17 +105,17 @@ fn judge<'t>(
     alloc: Global,
     tokens: &[Token],
     place: Place,
-    level: &mut Level<'t>,
+    inner: &mut OpenBracket<'t>,
 ) -> Result<(), ParseError>
-    ensures { Moves (parsing.judged level.old.inside place (level_shown tokens.now level.old)) (level_shown tokens.now level.new) result }
+    ensures { Moves (parsing.judged inner.old.inside place (bracket_shown tokens.now inner.old)) (bracket_shown tokens.now inner.new) result }
 {
-    match level.inside {
-        Inside::Program | Inside::Block => judge_statement(alloc, tokens, place, level),
+    match inner.inside {
+        Inside::Program | Inside::Block => judge_statement(alloc, tokens, place, inner),
         Inside::Parens | Inside::List | Inside::Merge => judge_expression(
-            alloc, tokens, place, level,
+            alloc, tokens, place, inner,
         ),
-        Inside::Pattern => judge_target(alloc, tokens, place, level, false),
-        Inside::HeaderPattern => judge_target(alloc, tokens, place, level, true),
+        Inside::Pattern => judge_target(alloc, tokens, place, inner, false),
+        Inside::HeaderPattern => judge_target(alloc, tokens, place, inner, true),
     }
 }
 
@@ -123,14 +127,14 @@ pub fn end<'t>(
     alloc: Global,
     tokens: &[Token],
     place: Place,
-    level: &mut Level<'t>,
+    inner: &mut OpenBracket<'t>,
 ) -> Result<(), ParseError>
-    ensures { Moves (parsing.ended place (level_shown tokens.now level.old)) (level_shown tokens.now level.new) result }
+    ensures { Moves (parsing.ended place (bracket_shown tokens.now inner.old)) (bracket_shown tokens.now inner.new) result }
 {
-    if !level.items.is_empty() {
-        return judge(alloc, tokens, place, level);
+    if !inner.items.is_empty() {
+        return judge(alloc, tokens, place, inner);
     }
-    match level.inside {
+    match inner.inside {
         Inside::Parens => Err(ParseError::Refused(Refusal::Grammar(place))),
         _ => Ok(()),
     }
@@ -142,12 +146,13 @@ pub fn ask<'t>(
     alloc: Global,
     tokens: &[Token],
     place: Place,
-    level: &mut Level<'t>,
+    inner: &mut OpenBracket<'t>,
 ) -> Result<(), ParseError>
-    ensures { Moves (parsing.asked (level_shown tokens.now level.old).items place (level_shown tokens.now level.old)) (level_shown tokens.now level.new) result }
+    ensures { Moves (parsing.asked (bracket_shown tokens.now inner.old).items place (bracket_shown tokens.now inner.old))
+        (bracket_shown tokens.now inner.new) result }
 {
-    if level.items.is_empty() {
+    if inner.items.is_empty() {
         return Err(ParseError::Refused(Refusal::Grammar(place)));
     }
-    judge_predicate(alloc, tokens, place, level)
+    judge_predicate(alloc, tokens, place, inner)
 }

@@ -23,7 +23,7 @@ const NOTHING: Ahead = Ahead {
     colon: false,
 };
 
-/// What stands here, and behind each bracket that closes but does not open from here on, the
+/// What stands here, and after each bracket that closes but does not open from here on, the
 /// innermost last.
 #[derive(Drop)]
 struct Looks {
@@ -31,7 +31,7 @@ struct Looks {
     outer: Vec<Ahead>,
 }
 
-/// Takes away what stands behind the innermost bracket.
+/// Takes away what stands after the innermost bracket.
 #[tactic(auto, using(crate::proofs::Looking::look_laws))]
 fn leave(outer: &mut Vec<Ahead>) -> Ahead
     ensures first { ahead_shown result ≡ first_of (stacked outer.old.items) }
@@ -43,7 +43,7 @@ fn leave(outer: &mut Vec<Ahead>) -> Ahead
     }
 }
 
-/// One more token, in front of the others: what stands behind the bracket that it opens is found.
+/// One more token, before the others: what stands after the bracket that it opens is found.
 #[tactic(auto, using(crate::proofs::Looking::look_laws))]
 #[inline(always)]
 fn look(looks: &mut Looks, found: &mut Vec<Ahead>, sort: Sort) -> Result<(), ParseError>
@@ -105,7 +105,7 @@ fn look(looks: &mut Looks, found: &mut Vec<Ahead>, sort: Sort) -> Result<(), Par
     Ok(())
 }
 
-/// For each opening bracket what stands behind the one that closes it, the first of them last.
+/// For each opening bracket what stands after the one that closes it, the first of them last.
 #[tactic(auto, using(crate::proofs::Looking::aheads_laws))]
 pub fn aheads(alloc: Global, tokens: &[Token]) -> Result<Vec<Ahead>, ParseError>
     ensures { Made (Ok (openings tokens.now)) (λ all. stacked all.items) result }
@@ -123,7 +123,7 @@ pub fn aheads(alloc: Global, tokens: &[Token]) -> Result<Vec<Ahead>, ParseError>
     Ok(found)
 }
 
-/// What stands behind the bracket that such a token opens, if it opens one. It is taken from what stands behind those
+/// What stands after the bracket that such a token opens, if it opens one. It is taken from what stands after those
 /// that are left.
 #[inline(always)]
 pub fn ahead_of(token: &Token, left: &mut Vec<Ahead>) -> Ahead

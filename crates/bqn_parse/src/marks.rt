@@ -34,8 +34,8 @@ fn and(s: Seen, r: Seen) -> Seen
     }
 }
 
-fn in_kind(kind: &Kind) -> Seen
-    ensures { seen_shown result ≡ classes.in_kind kind.now }
+fn seen_in_kind(kind: &Kind) -> Seen
+    ensures { seen_shown result ≡ classes.seen_in_kind kind.now }
 {
     let mut so = NOTHING;
     let Kind::Special(special, role) = kind else {
@@ -56,149 +56,149 @@ fn in_kind(kind: &Kind) -> Seen
 
 #[cycle(marks)]
 #[tactic(auto, using(bqn_syntax::specs::grammar::TreeEquations::tree_equations, crate::proofs::Marking::seen_laws))]
-fn in_expr(e: &Expr) -> Seen
-    ensures { seen_shown result ≡ classes.in_expr (expr_of e.now) }
+fn seen_in_expr(e: &Expr) -> Seen
+    ensures { seen_shown result ≡ classes.seen_in_expr (expr_of e.now) }
 {
     match e {
         Expr::Value { last, steps } => match last {
-            None => in_steps(steps.list()),
-            Some(x) => and(in_part(x), in_steps(steps.list())),
+            None => seen_in_steps(steps.list()),
+            Some(x) => and(seen_in_part(x), seen_in_steps(steps.list())),
         },
-        Expr::Train { parts, .. } => in_deriveds(parts.list()),
-        Expr::Modifier { part, .. } => in_part(part),
+        Expr::Train { parts, .. } => seen_in_deriveds(parts.list()),
+        Expr::Modifier { part, .. } => seen_in_part(part),
     }
 }
 
 #[cycle(marks)]
 #[tactic(auto, using(bqn_syntax::specs::grammar::TreeEquations::tree_equations, crate::proofs::Marking::seen_laws))]
-fn in_part(x: &Part) -> Seen
-    ensures { seen_shown result ≡ classes.in_part (part_of x.now) }
+fn seen_in_part(x: &Part) -> Seen
+    ensures { seen_shown result ≡ classes.seen_in_part (part_of x.now) }
 {
     match x {
-        Part::Leaf(t) => in_kind(&t.kind),
-        Part::List(es) => in_exprs(es.list()),
-        Part::Merge(es) => in_exprs(es.list()),
-        Part::Paren(e) => in_expr(e.get()),
+        Part::Leaf(t) => seen_in_kind(&t.kind),
+        Part::List(es) => seen_in_exprs(es.list()),
+        Part::Merge(es) => seen_in_exprs(es.list()),
+        Part::Paren(e) => seen_in_expr(e.get()),
         Part::Block(_) => NOTHING,
-        Part::Field { base, .. } => in_part(base.get()),
-        Part::Strand(xs) => in_parts(xs.list()),
+        Part::Field { base, .. } => seen_in_part(base.get()),
+        Part::Strand(xs) => seen_in_parts(xs.list()),
         Part::Nothing(_) => NOTHING,
     }
 }
 
 #[cycle(marks)]
 #[tactic(auto, using(bqn_syntax::specs::grammar::TreeEquations::tree_equations, crate::proofs::Marking::seen_laws))]
-fn in_step(s: &Step) -> Seen
-    ensures { seen_shown result ≡ classes.in_step (step_of s.now) }
+fn seen_in_step(s: &Step) -> Seen
+    ensures { seen_shown result ≡ classes.seen_in_step (step_of s.now) }
 {
     match s {
         Step::Apply { function, left } => match left {
-            None => in_derived(function),
-            Some(x) => and(in_derived(function), in_part(x)),
+            None => seen_in_derived(function),
+            Some(x) => and(seen_in_derived(function), seen_in_part(x)),
         },
         Step::Assign { .. } => NOTHING,
-        Step::Modify { function, .. } => in_derived(function),
+        Step::Modify { function, .. } => seen_in_derived(function),
     }
 }
 
 #[cycle(marks)]
 #[tactic(auto, using(bqn_syntax::specs::grammar::TreeEquations::tree_equations, crate::proofs::Marking::seen_laws))]
-fn in_derived(d: &Derived) -> Seen
-    ensures { seen_shown result ≡ classes.in_derived (derived_of d.now) }
+fn seen_in_derived(d: &Derived) -> Seen
+    ensures { seen_shown result ≡ classes.seen_in_derived (derived_of d.now) }
 {
-    and(in_part(&d.first), in_uses(d.uses.list()))
+    and(seen_in_part(&d.first), seen_in_uses(d.uses.list()))
 }
 
 #[cycle(marks)]
 #[tactic(auto, using(bqn_syntax::specs::grammar::TreeEquations::tree_equations, crate::proofs::Marking::seen_laws))]
-fn in_use(u: &ModUse) -> Seen
-    ensures { seen_shown result ≡ classes.in_use (use_of u.now) }
+fn seen_in_use(u: &ModUse) -> Seen
+    ensures { seen_shown result ≡ classes.seen_in_use (use_of u.now) }
 {
     match u {
-        ModUse::One(m) => in_part(m),
-        ModUse::Two(m, x) => and(in_part(m), in_part(x)),
+        ModUse::One(m) => seen_in_part(m),
+        ModUse::Two(m, x) => and(seen_in_part(m), seen_in_part(x)),
     }
 }
 
 #[cycle(marks)]
 #[tactic(auto, using(bqn_syntax::specs::grammar::TreeEquations::tree_equations, crate::proofs::Marking::seen_laws))]
-fn in_exprs(es: &[Expr]) -> Seen
-    ensures { seen_shown result ≡ classes.in_exprs (exprs (map expr_of es.now)) }
+fn seen_in_exprs(es: &[Expr]) -> Seen
+    ensures { seen_shown result ≡ classes.seen_in_exprs (exprs (map expr_of es.now)) }
 {
     let mut so = NOTHING;
     for e in es {
-        so = and(so, in_expr(e));
+        so = and(so, seen_in_expr(e));
     }
     so
 }
 
 #[cycle(marks)]
 #[tactic(auto, using(bqn_syntax::specs::grammar::TreeEquations::tree_equations, crate::proofs::Marking::seen_laws))]
-fn in_uses(us: &[ModUse]) -> Seen
-    ensures { seen_shown result ≡ classes.in_uses (uses (map use_of us.now)) }
+fn seen_in_uses(us: &[ModUse]) -> Seen
+    ensures { seen_shown result ≡ classes.seen_in_uses (uses (map use_of us.now)) }
 {
     let mut so = NOTHING;
     for u in us {
-        so = and(so, in_use(u));
+        so = and(so, seen_in_use(u));
     }
     so
 }
 
 #[cycle(marks)]
 #[tactic(auto, using(bqn_syntax::specs::grammar::TreeEquations::tree_equations, crate::proofs::Marking::seen_laws))]
-fn in_parts(xs: &[Part]) -> Seen
-    ensures { seen_shown result ≡ classes.in_parts (parts (map part_of xs.now)) }
+fn seen_in_parts(xs: &[Part]) -> Seen
+    ensures { seen_shown result ≡ classes.seen_in_parts (parts (map part_of xs.now)) }
 {
     let mut so = NOTHING;
     for x in xs {
-        so = and(so, in_part(x));
+        so = and(so, seen_in_part(x));
     }
     so
 }
 
 #[cycle(marks)]
 #[tactic(auto, using(bqn_syntax::specs::grammar::TreeEquations::tree_equations, crate::proofs::Marking::seen_laws))]
-fn in_steps(ss: &[Step]) -> Seen
-    ensures { seen_shown result ≡ classes.in_steps (steps (map step_of ss.now)) }
+fn seen_in_steps(ss: &[Step]) -> Seen
+    ensures { seen_shown result ≡ classes.seen_in_steps (steps (map step_of ss.now)) }
 {
     let mut so = NOTHING;
     for s in ss {
-        so = and(so, in_step(s));
+        so = and(so, seen_in_step(s));
     }
     so
 }
 
 #[cycle(marks)]
 #[tactic(auto, using(bqn_syntax::specs::grammar::TreeEquations::tree_equations, crate::proofs::Marking::seen_laws))]
-fn in_deriveds(ds: &[Derived]) -> Seen
-    ensures { seen_shown result ≡ classes.in_deriveds (deriveds (map derived_of ds.now)) }
+fn seen_in_deriveds(ds: &[Derived]) -> Seen
+    ensures { seen_shown result ≡ classes.seen_in_deriveds (deriveds (map derived_of ds.now)) }
 {
     let mut so = NOTHING;
     for d in ds {
-        so = and(so, in_derived(d));
+        so = and(so, seen_in_derived(d));
     }
     so
 }
 
 #[tactic(auto, using(bqn_syntax::specs::grammar::TreeEquations::tree_equations))]
-fn in_stmt(s: &Stmt) -> Seen
-    ensures { seen_shown result ≡ classes.in_stmt (stmt_of s.now) }
+fn seen_in_stmt(s: &Stmt) -> Seen
+    ensures { seen_shown result ≡ classes.seen_in_stmt (stmt_of s.now) }
 {
     match s {
-        Stmt::Eval(e) => in_expr(e),
-        Stmt::Predicate(e) => in_expr(e),
+        Stmt::Eval(e) => seen_in_expr(e),
+        Stmt::Predicate(e) => seen_in_expr(e),
         Stmt::Export(_) => NOTHING,
     }
 }
 
 /// Which special names occur in statements, blocks inside them aside.
 #[tactic(auto, using(bqn_syntax::specs::grammar::TreeEquations::tree_equations, crate::proofs::Marking::seen_laws))]
-pub fn in_stmts(ss: &[Stmt]) -> Seen
-    ensures { seen_shown result ≡ classes.in_stmts (stmts (map stmt_of ss.now)) }
+pub fn seen_in_stmts(ss: &[Stmt]) -> Seen
+    ensures { seen_shown result ≡ classes.seen_in_stmts (stmts (map stmt_of ss.now)) }
 {
     let mut so = NOTHING;
     for s in ss {
-        so = and(so, in_stmt(s));
+        so = and(so, seen_in_stmt(s));
     }
     so
 }
@@ -225,7 +225,7 @@ pub fn has_predicate(ss: &[Stmt]) -> bool
     so
 }
 
-/// Whether a statement stands behind the last predicate: 1 if one does, else 0.
+/// Whether a statement stands after the last predicate: 1 if one does, else 0.
 #[tactic(auto, using(crate::proofs::Marking::since_laws))]
 pub fn since_predicate(ss: &[Stmt]) -> u32
     ensures { result ≡ at_most_one (classes.since_predicate 0 (stmts (map stmt_of ss.now))) }

@@ -8,9 +8,9 @@ ghost use Rattle.bqn_parse.specs.Walking.{start, walk_shown};
 
 use crate::error::ParseError;
 use crate::judge::end;
-use crate::level::{Walk, open_level};
+use crate::open_bracket::{Walk, new_bracket};
 use crate::looks::{Ahead, ahead_of, aheads};
-use crate::step::step;
+use crate::one_token::step;
 use bqn_base::{Place, Refusal, Row};
 use bqn_grammar::{only_well_trees_are_found, well_trees_are_found};
 use bqn_roles::{NestError, nest};
@@ -24,19 +24,19 @@ const NOWHERE: Place = Place { line: 0, column: 0 };
 /// The tree, where every token has been read.
 #[tactic(auto, using(crate::proofs::Parsed::finish_laws))]
 fn finish<'t>(alloc: Global, tokens: &[Token], walk: &mut Walk<'t>) -> Result<Tree, ParseError>
-    ensures { Gives (program_of (walk_shown tokens.now walk.old).outer (ended nowhere (walk_shown tokens.now walk.old).level)) result }
+    ensures { Gives (program_of (walk_shown tokens.now walk.old).outer (ended nowhere (walk_shown tokens.now walk.old).inner)) result }
 {
-    end(alloc, tokens, NOWHERE, &mut walk.level)?;
+    end(alloc, tokens, NOWHERE, &mut walk.inner)?;
     if !walk.outer.is_empty() {
-        return Err(ParseError::Refused(Refusal::Bracket(walk.level.opened)));
+        return Err(ParseError::Refused(Refusal::Bracket(walk.inner.opened)));
     }
-    let statements = mem::replace(&mut walk.level.statements, Vec::new(alloc));
+    let statements = mem::replace(&mut walk.inner.statements, Vec::new(alloc));
     Ok(Tree {
         statements: Row::new(statements),
     })
 }
 
-/// The walk over the tokens, behind whose opening brackets this stands, the first of them last.
+/// The walk over the tokens, after whose opening brackets this stands, the first of them last.
 #[tactic(auto, using(crate::proofs::Parsed::walk_laws))]
 fn walk(alloc: Global, tokens: &[Token], behind: Vec<Ahead>) -> Result<Tree, ParseError>
     requires few { length tokens.now ≤ 2 ^ 28 }
@@ -46,7 +46,7 @@ fn walk(alloc: Global, tokens: &[Token], behind: Vec<Ahead>) -> Result<Tree, Par
     let mut left = behind;
     let mut spare = Vec::new(alloc);
     let mut walk = Walk {
-        level: open_level(alloc, Inside::Program, NOWHERE, &mut spare)?,
+        inner: new_bracket(alloc, Inside::Program, NOWHERE, &mut spare)?,
         outer: Vec::new(alloc),
         spare,
     };
@@ -60,7 +60,7 @@ fn walk(alloc: Global, tokens: &[Token], behind: Vec<Ahead>) -> Result<Tree, Par
     finish(alloc, tokens, &mut walk)
 }
 
-/// What the walk gives, behind the scan of the brackets.
+/// What the walk gives, after the scan of the brackets.
 #[tactic(auto, using(crate::proofs::Parsed::parse_laws))]
 fn tree(alloc: Global, tokens: &[Token]) -> Result<Tree, ParseError>
     requires { length tokens.now ≤ 2 ^ 28 }

@@ -11,7 +11,7 @@ use Rattle.bqn_syntax.specs.declared.token.Kind.TheVariants as kind
 use Rattle.bqn_syntax.specs.declared.token.Token.{Token}
 use Rattle.bqn_syntax.specs.grammar.Brackets.{Nesting, is_opening, is_closing, closing_of, alone, opened, closed, marked, behind_token, at_end, nested, partners_of}
 use Rattle.bqn_roles.specs.declared.brackets.Scan.{Scan}
-use Rattle.bqn_roles.specs.Nesting.{AllBefore, Sound, shown}
+use Rattle.bqn_roles.specs.Nesting.{AllBefore, Sound, nesting_of}
 
 pub reverse-snoc : (brackets : List Open) (bracket : Open) → reverse (brackets ++ bracket ∷ []) ≡ bracket ∷ reverse brackets
 reverse-snoc brackets bracket = reverse-append brackets (bracket ∷ [])
@@ -23,7 +23,7 @@ all_before-later : (index : ℕ) (brackets : List Open) → AllBefore index brac
 all_before-later index [] before = tt
 all_before-later index (bracket ∷ brackets) before = (let first : bracket.index < index = before.0 in omega arith, all_before-later index brackets before.1)
 
--- behind a step that is not refused, so many tokens have partners
+-- after a step that is not refused, so many tokens have partners
 abbrev SoundAfter : ℕ → Result Nesting Refusal → Type 0
 SoundAfter index (Ok next) = Sound index next
 SoundAfter index (Err r) = Unit {0}
@@ -61,7 +61,7 @@ after-token index (kind.Punct c) place now sound = after-marked (record { index 
 after-token index other place now sound = after-alone index now sound
 
 -- an open bracket has its place among the partners
-pub innermost-inside : (index : ℕ) (scan : Scan) (brackets : List Open) (innermost : Open) → Sound index (shown scan) → scan.around.items ≡ brackets ++ innermost ∷ [] → innermost.index < length scan.partner.items
+pub innermost-inside : (index : ℕ) (scan : Scan) (brackets : List Open) (innermost : Open) → Sound index (nesting_of scan) → scan.around.items ≡ brackets ++ innermost ∷ [] → innermost.index < length scan.partner.items
 innermost-inside index scan brackets innermost sound e =
     let before : AllBefore index (innermost ∷ reverse brackets) = subst (λ (os : List Open). AllBefore index os) (ap reverse e ∙ reverse-snoc brackets innermost) sound.before in
     let first : innermost.index < index = before.0 in

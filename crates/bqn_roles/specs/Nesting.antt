@@ -8,8 +8,8 @@ use Rattle.bqn_roles.specs.declared.brackets.Scan.{Scan}
 use Rattle.bqn_roles.specs.declared.error.NestError.{NestError}
 use Rattle.bqn_roles.specs.declared.error.NestError.TheVariants.{Refused, Memory}
 
-abbrev pub shown : Scan → Nesting
-shown scan = record { around = reverse scan.around.items; partners = scan.partner.items }
+abbrev pub nesting_of : Scan → Nesting
+nesting_of scan = record { around = reverse scan.around.items; partners = scan.partner.items }
 
 -- brackets that stand before a token
 abbrev pub AllBefore : ℕ → List Open → Type 0
@@ -21,13 +21,13 @@ pub record Sound (index : ℕ) (now : Nesting) : Type 0 where
   pub counted : length now.partners ≡ index
   pub before : AllBefore index now.around
 
--- what is shown now is this answer, or its refusal is given; want of memory says nothing
+-- what is shown now is this answer, or its refusal is given; out of memory says nothing
 abbrev pub Moves : {X : Type 0} → Result Nesting Refusal → Nesting → Result X NestError → Type 0
 Moves answer new (Ok done) = answer ≡ Ok new
 Moves answer new (Err (Refused r)) = answer ≡ Err r
 Moves answer new (Err Memory) = Unit {0}
 
--- the partners that are given are these, or the refusal is; want of memory says nothing
+-- the partners that are given are these, or the refusal is; out of memory says nothing
 abbrev pub Gives : Result (List ℕ) Refusal → Result Groups NestError → Type 0
 Gives answer (Ok groups) = answer ≡ Ok groups.partner.items
 Gives answer (Err (Refused r)) = answer ≡ Err r

@@ -1,6 +1,6 @@
 ghost use Rattle.std.specs.Prelude.{◌≡◌, ◌≤◌, ◌^◌, length};
 ghost use Rattle.bqn_syntax.specs.grammar.Brackets.{behind_token, closed, closing_of, is_closing, is_opening, marked, opened, partners_of};
-ghost use Rattle.bqn_roles.specs.Nesting.{Gives, Moves, Sound, shown};
+ghost use Rattle.bqn_roles.specs.Nesting.{Gives, Moves, Sound, nesting_of};
 
 use crate::error::NestError;
 use bqn_base::{Place, Refusal};
@@ -52,7 +52,7 @@ fn close_of(c: char) -> char
 /// Opens a bracket, which stands as its own partner until it is closed.
 #[tactic(auto, using(crate::proofs::Scanning::scan_laws))]
 fn open_bracket(scan: &mut Scan, bracket: Open) -> Result<(), NestError>
-    ensures { Moves (opened bracket (shown scan.old)) (shown scan.new) result }
+    ensures { Moves (opened bracket (nesting_of scan.old)) (nesting_of scan.new) result }
 {
     if scan.around.len() == DEEPEST {
         return Err(NestError::Refused(Refusal::TooNested(bracket.place)));
@@ -65,8 +65,8 @@ fn open_bracket(scan: &mut Scan, bracket: Open) -> Result<(), NestError>
 /// Closes the innermost open bracket.
 #[tactic(auto, using(crate::proofs::Scanning::scan_laws))]
 fn close_bracket(scan: &mut Scan, bracket: Open) -> Result<(), NestError>
-    requires { Sound bracket.index (shown scan.now) }
-    ensures { Moves (closed bracket (shown scan.old).around (shown scan.old).partners) (shown scan.new) result }
+    requires { Sound bracket.index (nesting_of scan.now) }
+    ensures { Moves (closed bracket (nesting_of scan.old).around (nesting_of scan.old).partners) (nesting_of scan.new) result }
 {
     let Some(innermost) = scan.around.pop() else {
         return Err(NestError::Refused(Refusal::Bracket(bracket.place)));
@@ -81,8 +81,8 @@ fn close_bracket(scan: &mut Scan, bracket: Open) -> Result<(), NestError>
 
 /// One mark of punctuation.
 fn take_mark(scan: &mut Scan, mark: Open) -> Result<(), NestError>
-    requires { Sound mark.index (shown scan.now) }
-    ensures { Moves (marked mark (shown scan.old)) (shown scan.new) result }
+    requires { Sound mark.index (nesting_of scan.now) }
+    ensures { Moves (marked mark (nesting_of scan.old)) (nesting_of scan.new) result }
 {
     if is_open(mark.code) {
         return open_bracket(scan, mark);
@@ -96,8 +96,8 @@ fn take_mark(scan: &mut Scan, mark: Open) -> Result<(), NestError>
 
 /// One token.
 fn take_token(scan: &mut Scan, index: u32, kind: &Kind, place: Place) -> Result<(), NestError>
-    requires { Sound index (shown scan.now) }
-    ensures { Moves (behind_token index kind.now place (shown scan.old)) (shown scan.new) result }
+    requires { Sound index (nesting_of scan.now) }
+    ensures { Moves (behind_token index kind.now place (nesting_of scan.old)) (nesting_of scan.new) result }
 {
     match kind {
         Kind::Punct(c) => take_mark(
@@ -121,7 +121,7 @@ fn take_token(scan: &mut Scan, index: u32, kind: &Kind, place: Place) -> Result<
 ///
 /// `Refused` with the leftmost bracket that closes none of its kind (`Bracket`) or that makes more
 /// than 128 open at once (`TooNested`), else with the innermost one that is open at the end
-/// (`Bracket`); and want of memory.
+/// (`Bracket`); and out of memory.
 #[tactic(auto, using(crate::proofs::Scanning::nest_laws))]
 pub fn nest(alloc: Global, tokens: &[Token]) -> Result<Groups, NestError>
     requires { length tokens.now ≤ 2 ^ 28 }

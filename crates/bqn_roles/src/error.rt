@@ -4,7 +4,7 @@ ghost use Rattle.bqn_roles.specs.declared.error.NestError.TheVariants as error;
 use bqn_base::Refusal;
 use std::alloc::{AllocError, AllocFailed};
 
-/// Why the brackets of a source have no partners: it is refused, or memory is wanting.
+/// Why the brackets of a source have no partners: it is refused, or memory runs out.
 #[derive(Clone, Copy, Debug, PartialEq, Eq)]
 pub enum NestError {
     Refused(Refusal),

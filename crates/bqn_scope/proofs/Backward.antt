@@ -1,4 +1,4 @@
--- One more in front of a list that is filled from its end, and what a loop from the end of a list has gone through.
+-- One more before a list that is filled from its end, and what a loop from the end of a list has gone through.
 use Rattle.std.proofs.Common.{◌≡◌, List, [], ◌∷◌, ◌++◌, map, reverse, refl, ap, sym, ◌∙◌, Bor}
 use Rattle.std.proofs.lemmas.List.{reverse-append, reverse-reverse, map-append}
 use Rattle.bqn_syntax.specs.grammar.Trees.{BodyTree, body}

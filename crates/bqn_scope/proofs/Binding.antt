@@ -15,8 +15,8 @@ use Rattle.bqn_scope.specs.Tokens.{tokens_shown, names_of_tokens}
 abbrev Entries : Type 0
 Entries = List (Bor (List ℕ) × Binding)
 
-same_key : Bor (List ℕ) → Bor (List ℕ) → Bool
-same_key a b = pointwise nat_eq a.now b.now
+same-key : Bor (List ℕ) → Bor (List ℕ) → Bool
+same-key a b = pointwise nat_eq a.now b.now
 
 found : (es : Entries) (name : List ℕ) → option_flatten (lookup (λ k. pointwise nat_eq name k.now) es) ≡ bound_in es name
 found [] name = refl
@@ -55,7 +55,7 @@ inserted (e ∷ es) k b name = chosen (pointwise nat_eq k.now e.0.now) refl (ins
 pub inserted-bound : (old new : Entries) (k : Bor (List ℕ)) (b : Binding) → new ≡ insert_entry (λ x y. pointwise nat_eq x.now y.now) old k b → bound_in new ≡ bound_to k.now b (bound_in old)
 inserted-bound old new k b e = ap bound_in e ∙ (λ i name. inserted old k b name i)
 
--- the name in front of those that are bound
+-- the name before those that are bound
 drop-at : (names : List (List ℕ)) (index : ℕ) (name : List ℕ) → 0 < index → index ≤ length names → name ≡ get_or names (index - 1) name → drop (index - 1) names ≡ name ∷ drop index names
 drop-at names index name some inside is =
     let next : suc (index - 1) ≡ index = omega arith in

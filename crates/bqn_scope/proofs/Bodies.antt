@@ -80,7 +80,7 @@ sees-bound (s ∷ around) name = ap (or_outward (place_of (names_of s) name)) (s
         same i = omega arith
     chosen None = further (length around) (innermost around name) (below around name)
 
--- the names of two lists, one behind the other
+-- the names of two lists, one after the other
 pub bound-append : (level slot : ℕ) (xs ys : List (List ℕ)) (outside : List ℕ → Binding) → bound_by level slot xs (bound_by level (slot + length xs) ys outside) ≡ bound_by level slot (xs ++ ys) outside
 bound-append level slot [] ys outside = ap (λ (k : ℕ). bound_by level k ys outside) (omega arith)
 bound-append level slot (x ∷ xs) ys outside = ap (bound_to x (Some (level, slot))) (ap (λ (k : ℕ). bound_by level (slot + 1) xs (bound_by level k ys outside)) (omega arith) ∙ bound-append level (slot + 1) xs ys outside)

@@ -1,16 +1,16 @@
 -- Names that are added, by computation.
 use Rattle.std.specs.Prelude.{◌≡◌, ℕ, List, [], ◌∷◌, Some, None, refl}
+use lib.Chars.{codes}
 use Rattle.bqn_scope.specs.Names.{added, place_of, with_place}
 
--- x, x1 and s
 abbrev x : List ℕ
-x = 120 ∷ []
+x = codes "x"
 
 abbrev x1 : List ℕ
-x1 = 120 ∷ 49 ∷ []
+x1 = codes "x1"
 
 abbrev s : List ℕ
-s = 115 ∷ []
+s = codes "s"
 
 first : added [] x ≡ with_place (x ∷ []) (Some 0)
 first = refl
@@ -21,8 +21,8 @@ second = refl
 held : added (x ∷ x1 ∷ []) x1 ≡ with_place (x ∷ x1 ∷ []) (Some 1)
 held = refl
 
-held_first : place_of (x ∷ x1 ∷ []) x ≡ Some 0
-held_first = refl
+held-first : place_of (x ∷ x1 ∷ []) x ≡ Some 0
+held-first = refl
 
-not_held : place_of (x ∷ x1 ∷ []) s ≡ None
-not_held = refl
+not-held : place_of (x ∷ x1 ∷ []) s ≡ None
+not-held = refl

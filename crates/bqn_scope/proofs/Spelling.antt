@@ -21,12 +21,12 @@ pub any-before : {X : Type 0} (p : X → Bool) (xs : List X) → list_any p xs �
 any-before p [] = refl
 any-before p (x ∷ xs) = one-more (p x) (list_any p xs) (position_or_len p xs) (length xs) (any-before p xs)
 
-is_none : (b : Bool) (i : ℕ) → cond b (Some i) None ≡ None → b ≡ false
-is_none true i e = cc
-is_none false i e = refl
+is-none : (b : Bool) (i : ℕ) → cond b (Some i) None ≡ None → b ≡ false
+is-none true i e = cc
+is-none false i e = refl
 
 pub none-passes : {X : Type 0} (p : X → Bool) (xs : List X) → position p xs ≡ None → list_any p xs ≡ false
-none-passes p xs e = any-before p xs ∙ is_none (nat_lt (position_or_len p xs) (length xs)) (position_or_len p xs) e
+none-passes p xs e = any-before p xs ∙ is-none (nat_lt (position_or_len p xs) (length xs)) (position_or_len p xs) e
 
 pub absent : (names : List (List ℕ)) (name : List ℕ) → place_of names name ≡ None → has names name ≡ false
 absent names name e = none-passes (λ other. pointwise nat_eq other name) names e

@@ -24,8 +24,8 @@ and-congr true true c d e f h k both = λ i. h refl i && k refl i
 and-congr true false c d e f h k both = cc
 and-congr false b c d e f h k both = cc
 
-spot_equiv : IsEquivalence same_spot
-spot_equiv = record {
+spot-equiv : IsEquivalence same_spot
+spot-equiv = record {
   refl = λ p. λ i. nat_eq_equiv.refl p.0 i && nat_eq_equiv.refl p.1 i;
   symm = λ p q. λ i. nat_eq_equiv.symm p.0 q.0 i && nat_eq_equiv.symm p.1 q.1 i;
   congr = λ p q r e. and-congr (nat_eq p.0 q.0) (nat_eq p.1 q.1) (nat_eq p.0 r.0) (nat_eq p.1 r.1) (nat_eq q.0 r.0) (nat_eq q.1 r.1) (nat_eq_equiv.congr p.0 q.0 r.0) (nat_eq_equiv.congr p.1 q.1 r.1) e;
@@ -69,7 +69,7 @@ without-kept t (f ∷ fs) (d ∷ ds) h = step f (same_place t d) refl (without-k
   where
     step : (f b : Bool) → same_place t d ≡ b → without t (kept fs ds) ≡ kept (set fs (position_or_len (same_spot (spot t)) (spots_of ds)) false) ds → without t (kept (f ∷ fs) (d ∷ ds)) ≡ kept (set (f ∷ fs) (cond (not b) (1 + position_or_len (same_spot (spot t)) (spots_of ds)) 0) false) (d ∷ ds)
     step true true e rest = ap (λ (b : Bool). if b then kept fs ds else d ∷ without t (kept fs ds)) e
-    step false true e rest = without-none t fs ds (unlike same_spot spot_equiv (spot d) (spot t) (spots_of ds) (spot_equiv.symm (spot d) (spot t) ∙ e) h.0)
+    step false true e rest = without-none t fs ds (unlike same_spot spot-equiv (spot d) (spot t) (spots_of ds) (spot-equiv.symm (spot d) (spot t) ∙ e) h.0)
     step true false e rest = ap (λ (b : Bool). if b then kept fs ds else d ∷ without t (kept fs ds)) e ∙ ap (λ (xs : List Token). d ∷ xs) rest ∙ ap (λ (n : ℕ). kept (set (true ∷ fs) n false) (d ∷ ds)) (sym (one-plus (position_or_len (same_spot (spot t)) (spots_of ds))))
     step false false e rest = rest ∙ ap (λ (n : ℕ). kept (set (false ∷ fs) n false) (d ∷ ds)) (sym (one-plus (position_or_len (same_spot (spot t)) (spots_of ds))))
 

@@ -8,5 +8,5 @@ pub mod Around
 pub mod Numbering
 pub mod Resolving
 pub mod Shown
-pub mod Levels
+pub mod Equations
 pub mod Unstarted

@@ -52,7 +52,7 @@ Adds old name new (Ok place) = added old name ≡ with_place new (Some place)
 Adds old name new (Err Full) = added old name ≡ with_place new None
 Adds old name new (Err Memory) = new ≡ old
 
--- memory is wanting only for a name that goes to the end
+-- memory runs out only for a name that goes to the end
 abbrev pub TakesMemory : List (List ℕ) → List ℕ → Result ℕ NamesError → Type 0
 TakesMemory old name (Ok place) = Unit {0}
 TakesMemory old name (Err Full) = Unit {0}

@@ -11,7 +11,9 @@ exported_names found = map (λ e. e.0) found
 
 -- the exports once one more mention has been seen
 abbrev pub exporting : List (List ℕ) → List (List ℕ × ℕ) → Mention → List (List ℕ × ℕ)
-exporting names found (Named how t) = if exports_it how && not (has (exported_names found) (name_of t)) then at_slot (name_of t) (place_of names (name_of t)) found else found
+exporting names found (Named how t) =
+    if exports_it how && not (has (exported_names found) (name_of t)) then at_slot (name_of t) (place_of names (name_of t)) found
+    else found
 exporting names found m = found
 
 abbrev pub body_shown : BodyNames → bodies.BodyNames

@@ -15,7 +15,12 @@ known_in outer true = []
 known_in outer false = outer
 
 abbrev pub scope_shown : List (List ℕ) → CodeScope → Scope
-scope_shown outer s = record { known = known_in outer s.in_block; defined = tokens_shown s.defined.places.tokens.items; early = tokens_shown s.early.tokens.items; in_block = s.in_block }
+scope_shown outer s = record {
+  known = known_in outer s.in_block;
+  defined = tokens_shown s.defined.places.tokens.items;
+  early = tokens_shown s.early.tokens.items;
+  in_block = s.in_block;
+}
 
 -- the innermost one first
 abbrev pub scopes_around : List (List ℕ) → List CodeScope → List Scope
@@ -30,7 +35,7 @@ use_shown u = record { seen = record { up = u.up; slot = u.slot }; place = u.pla
 abbrev pub uses_shown : List CodeUse → List Use
 uses_shown uses = map use_shown uses
 
--- the uses that are written are these, or the refusal is; want of memory says nothing
+-- the uses that are written are these, or the refusal is; out of memory says nothing
 abbrev pub Writes : {T : Type 0} → Result (List Use) Refusal → List CodeUse → Result T ScopeError → Type 0
 Writes answer new (Ok _) = answer ≡ Ok (uses_shown new)
 Writes answer new (Err (Refused r)) = answer ≡ Err r

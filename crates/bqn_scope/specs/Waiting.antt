@@ -11,7 +11,7 @@ kept [] tokens = []
 kept (mark ∷ marks) [] = []
 kept (mark ∷ marks) (t ∷ ts) = if mark then t ∷ kept marks ts else kept marks ts
 
--- the definitions still to come, behind an event
+-- the definitions still to come, after an event
 abbrev pub to_come : List Token → How × Token → List Token
 to_come waiting e = if defines e.0 then without e.1 waiting else waiting
 

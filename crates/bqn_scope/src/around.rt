@@ -7,10 +7,10 @@ ghost use Rattle.bqn_scope.specs.Scopes.{seen_of};
 ghost use Rattle.bqn_scope.specs.Shown.{events_shown, mentions_shown, own_of};
 
 use crate::bindings::{Bindings, Hidden};
-use crate::error::NoMemory;
 use crate::mention::{Event, Mention, Own};
 use crate::scope::{Scope, scope_of};
 use crate::spellings::Spellings;
+use bqn_base::Memory;
 use std::alloc::Global;
 
 /// The bodies around, from the top body inward, with the bindings of names in the last one.
@@ -22,14 +22,14 @@ pub struct Around<'a> {
 }
 
 impl<'a> Around<'a> {
-    /// The top body of a program behind these names.
+    /// The top body of a program after these names.
     #[tactic(auto, using(crate::proofs::Bodies::around_laws))]
     pub fn of_program(
         alloc: Global,
         outer: &'a Spellings,
         mentions: &[Mention<'a>],
         order: &[Event<'a>],
-    ) -> Result<Around<'a>, NoMemory>
+    ) -> Result<Around<'a>, Memory>
         ensures bound { IfOk result IsBound }
         ensures bodies { IfOk result (λ around. bodies_around around ≡ top_scope outer.now (mentions_shown mentions.now) (events_shown order.now) ∷ []) }
     {
@@ -72,8 +72,8 @@ impl<'a> Around<'a> {
     }
 
     /// Goes into a body of a block, and gives what its names hide.
-    #[tactic(auto, using(crate::specs::Levels::levels, crate::proofs::Bodies::around_laws))]
-    pub fn enter(&mut self, alloc: Global, own: &Own<'a>) -> Result<Vec<Hidden<'a>>, NoMemory>
+    #[tactic(auto, using(crate::specs::Equations::of_mentions, crate::proofs::Bodies::around_laws))]
+    pub fn enter(&mut self, alloc: Global, own: &Own<'a>) -> Result<Vec<Hidden<'a>>, Memory>
         requires { IsBound self.old }
         ensures bound { OnOk result (IsBound self.new) }
         ensures bodies { OnOk result (bodies_around self.new ≡ block_scope (own_of own.now).mentions (own_of own.now).order ∷ bodies_around self.old) }
@@ -89,7 +89,7 @@ impl<'a> Around<'a> {
 
     /// Goes out of the last body, whose names hide these.
     #[tactic(auto, using(crate::proofs::Bodies::around_laws))]
-    pub fn leave(&mut self, hidden: &[Hidden<'a>]) -> Result<(), NoMemory>
+    pub fn leave(&mut self, hidden: &[Hidden<'a>]) -> Result<(), Memory>
         ensures bodies { OnOk result (bodies_around self.new ≡ drop 1 (bodies_around self.old)) }
         ensures bindings { OnOk result (bindings_shown self.new.bindings ≡ unbound (hidden_shown hidden.now) (bindings_shown self.old.bindings)) }
     {

@@ -3,8 +3,8 @@ ghost use Rattle.bqn_scope.specs.Bindings.{bindings_shown, bound_by, bound_to, h
 ghost use Rattle.bqn_scope.specs.Tokens.{names_of_tokens, tokens_shown};
 
 use crate::defined::name_of;
-use crate::error::NoMemory;
 use crate::spellings::Spellings;
+use bqn_base::Memory;
 use bqn_syntax::Token;
 use indexmap::IndexMap;
 use std::alloc::Global;
@@ -51,7 +51,7 @@ impl<'a> Bindings<'a> {
         &mut self,
         name: &'a [char],
         binding: Option<(usize, usize)>,
-    ) -> Result<Option<(usize, usize)>, NoMemory>
+    ) -> Result<Option<(usize, usize)>, Memory>
         ensures before { IfOk result (λ before. before ≡ bindings_shown self.old name.now) }
         ensures after { OnOk result (bindings_shown self.new ≡ bound_to name.now binding (bindings_shown self.old)) }
     {
@@ -70,16 +70,17 @@ impl<'a> Bindings<'a> {
         level: usize,
         first: usize,
         tokens: &[&'a Token],
-    ) -> Result<Vec<Hidden<'a>>, NoMemory>
+    ) -> Result<Vec<Hidden<'a>>, Memory>
         ensures bound { OnOk result (bindings_shown self.new ≡ bound_by level first (names_of_tokens (tokens_shown tokens.now)) (bindings_shown self.old)) }
-        ensures hidden { IfOk result (λ hidden. hidden_shown hidden.items ≡ hidden_by level first (names_of_tokens (tokens_shown tokens.now)) (bindings_shown self.old)) }
+        ensures hidden { IfOk result (λ hidden. hidden_shown hidden.items
+            ≡ hidden_by level first (names_of_tokens (tokens_shown tokens.now)) (bindings_shown self.old)) }
     {
         let mut hidden = Vec::new(alloc);
         let mut index = tokens.len();
         'tokens: while index > 0 {
             index -= 1;
             let Some(slot) = first.checked_add(index) else {
-                return Err(NoMemory);
+                return Err(Memory);
             };
             let name = name_of(tokens[index]);
             let outside = self.set(name, Some((level, slot)))?;
@@ -90,7 +91,7 @@ impl<'a> Bindings<'a> {
 
     /// Binds the names of a session to the first slots of the top body.
     #[tactic(auto, using(crate::proofs::Binding::binding_laws))]
-    pub fn bind_session(&mut self, names: &'a Spellings) -> Result<(), NoMemory>
+    pub fn bind_session(&mut self, names: &'a Spellings) -> Result<(), Memory>
         ensures { OnOk result (bindings_shown self.new ≡ bound_by 0 0 names.now (bindings_shown self.old)) }
     {
         let mut index = names.len();
@@ -103,7 +104,7 @@ impl<'a> Bindings<'a> {
 
     /// Gives hidden names their bindings back.
     #[tactic(auto, using(crate::proofs::Binding::binding_laws))]
-    pub fn restore(&mut self, hidden: &[Hidden<'a>]) -> Result<(), NoMemory>
+    pub fn restore(&mut self, hidden: &[Hidden<'a>]) -> Result<(), Memory>
         ensures { OnOk result (bindings_shown self.new ≡ unbound (hidden_shown hidden.now) (bindings_shown self.old)) }
     {
         let mut index = hidden.len();

@@ -7,11 +7,10 @@ ghost use Rattle.bqn_scope.specs.Shown.{how_shown, mention_of, mentions_shown};
 ghost use Rattle.bqn_scope.specs.Tokens.{names_of_tokens, tokens_shown};
 
 use crate::defined::{Defined, name_of};
-use crate::error::NoMemory;
 use crate::mention::{How, Mention};
 use crate::scope::{definitions_in, slot};
 use crate::spellings::Spellings;
-use bqn_base::{Name, Row};
+use bqn_base::{Memory, Name, Row};
 use std::alloc::Global;
 
 /// A body's parent, which for the top body is the number of the session's names; its names by
@@ -41,7 +40,7 @@ fn slots(
     outer: &Spellings,
     in_block: bool,
     defined: &Defined,
-) -> Result<Vec<Name>, NoMemory>
+) -> Result<Vec<Name>, Memory>
     ensures { IfOk result (λ names. names.items ≡ known_in outer.now in_block ++ names_of_tokens (tokens_shown defined.now.places.tokens.items)) }
 {
     let mut names = Vec::new(alloc);
@@ -62,10 +61,12 @@ fn export(
     exported: &mut Spellings,
     exports: &mut Vec<(Name, u32)>,
     mention: &Mention,
-) -> Result<(), NoMemory>
+) -> Result<(), Memory>
     requires { exported.old ≡ exported_names exports.old.items }
     ensures names { OnOk result (exported.new ≡ exported_names exports.new.items) }
-    ensures exports { OnOk result (exports.new.items ≡ exporting (known_in outer.now in_block ++ names_of_tokens (tokens_shown defined.now.places.tokens.items)) exports.old.items (mention_of mention.now)) }
+    ensures exports { OnOk result (exports.new.items
+        ≡ exporting (known_in outer.now in_block ++ names_of_tokens (tokens_shown defined.now.places.tokens.items)) exports.old.items
+        (mention_of mention.now)) }
 {
     let Mention::Named(how, token) = mention else {
         return Ok(());
@@ -77,7 +78,7 @@ fn export(
     match slot(defined, in_block, outer, name) {
         Ok(Some(place)) => {
             let Ok(found) = u32::try_from(place) else {
-                return Err(NoMemory);
+                return Err(Memory);
             };
             exported.push(name)?;
             let copy = Name::new(alloc, name)?;
@@ -85,7 +86,7 @@ fn export(
             Ok(())
         }
         Ok(None) => Ok(()),
-        Err(_) => Err(NoMemory),
+        Err(_) => Err(Memory),
     }
 }
 
@@ -97,8 +98,9 @@ fn exports(
     in_block: bool,
     defined: &Defined,
     mentions: &[Mention],
-) -> Result<Vec<(Name, u32)>, NoMemory>
-    ensures { IfOk result (λ exports. exports.items ≡ exports_of (known_in outer.now in_block ++ names_of_tokens (tokens_shown defined.now.places.tokens.items)) (mentions_shown mentions.now) []) }
+) -> Result<Vec<(Name, u32)>, Memory>
+    ensures { IfOk result (λ exports. exports.items
+        ≡ exports_of (known_in outer.now in_block ++ names_of_tokens (tokens_shown defined.now.places.tokens.items)) (mentions_shown mentions.now) []) }
 {
     let mut exported = Spellings::new(alloc);
     let mut exports = Vec::new(alloc);
@@ -124,8 +126,10 @@ pub fn body_names(
     in_block: bool,
     parent: u32,
     mentions: &[Mention],
-) -> Result<BodyNames, NoMemory>
-    ensures { IfOk result (λ names. body_shown names ≡ body_with parent (known_in outer.now in_block ++ names_of_tokens (definitions (known_in outer.now in_block) (mentions_shown mentions.now))) (mentions_shown mentions.now)) }
+) -> Result<BodyNames, Memory>
+    ensures { IfOk result (λ names. body_shown names
+        ≡ body_with parent (known_in outer.now in_block ++ names_of_tokens (definitions (known_in outer.now in_block) (mentions_shown mentions.now)))
+        (mentions_shown mentions.now)) }
 {
     let defined = definitions_in(alloc, outer, in_block, mentions)?;
     let names = slots(alloc, outer, in_block, &defined)?;

@@ -6,10 +6,10 @@ ghost use Rattle.bqn_scope.specs.Defining.{defining};
 ghost use Rattle.bqn_scope.specs.Shown.{how_shown, mention_of, mentions_shown};
 ghost use Rattle.bqn_scope.specs.Tokens.{known_names, names_of_tokens, tokens_shown};
 
-use crate::error::NoMemory;
 use crate::mention::{How, Mention};
 use crate::places::Places;
 use crate::spellings::Spellings;
+use bqn_base::Memory;
 use bqn_syntax::{Kind, Token};
 use std::alloc::Global;
 
@@ -60,7 +60,7 @@ fn define<'a>(
     names: &mut Spellings,
     tokens: &mut Vec<&'a Token>,
     mention: &Mention<'a>,
-) -> Result<(), NoMemory>
+) -> Result<(), Memory>
     requires { names.old ≡ names_of_tokens (tokens_shown tokens.old.items) }
     ensures names { OnOk result (names.new ≡ names_of_tokens (tokens_shown tokens.new.items)) }
     ensures tokens { OnOk result (tokens_shown tokens.new.items ≡ defining (known_names known.entry) (tokens_shown tokens.old.items) (mention_of mention.now)) }
@@ -83,7 +83,7 @@ pub fn definitions<'a>(
     alloc: Global,
     known: Option<&Spellings>,
     mentions: &[Mention<'a>],
-) -> Result<Defined<'a>, NoMemory>
+) -> Result<Defined<'a>, Memory>
     ensures { IfOk result (λ defined. tokens_shown defined.places.tokens.items ≡ definitions (known_names known.entry) (mentions_shown mentions.now)) }
 {
     let mut names = Spellings::new(alloc);

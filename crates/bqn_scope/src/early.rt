@@ -5,8 +5,8 @@ ghost use Rattle.bqn_scope.specs.Tokens.{names_of_tokens, tokens_shown};
 ghost use Rattle.bqn_scope.specs.Waiting.{early_with, kept, to_come};
 
 use crate::defined::{Defined, defines, name_of};
-use crate::error::NoMemory;
 use crate::mention::Event;
+use bqn_base::Memory;
 use bqn_syntax::Token;
 use std::alloc::Global;
 
@@ -15,7 +15,8 @@ use std::alloc::Global;
 fn store(defined: &Defined, waiting: &mut Vec<bool>, token: &Token)
     requires { length waiting.old.items ≡ length (tokens_shown defined.now.places.tokens.items) }
     ensures room { length waiting.new.items ≡ length (tokens_shown defined.now.places.tokens.items) }
-    ensures stored { kept waiting.new.items (tokens_shown defined.now.places.tokens.items) ≡ without token.now (kept waiting.old.items (tokens_shown defined.now.places.tokens.items)) }
+    ensures stored { kept waiting.new.items (tokens_shown defined.now.places.tokens.items)
+        ≡ without token.now (kept waiting.old.items (tokens_shown defined.now.places.tokens.items)) }
 {
     if let Some(place) = defined.places.position(token) {
         waiting[place] = false;
@@ -40,11 +41,13 @@ fn meet<'a>(
     waiting: &mut Vec<bool>,
     early: &mut Vec<&'a Token>,
     event: &Event<'a>,
-) -> Result<(), NoMemory>
+) -> Result<(), Memory>
     requires { length waiting.old.items ≡ length (tokens_shown defined.now.places.tokens.items) }
     ensures room { length waiting.new.items ≡ length (tokens_shown defined.now.places.tokens.items) }
-    ensures waiting { OnOk result (kept waiting.new.items (tokens_shown defined.now.places.tokens.items) ≡ to_come (kept waiting.old.items (tokens_shown defined.now.places.tokens.items)) (event_shown event.now)) }
-    ensures early { OnOk result (tokens_shown early.new.items ≡ early_with (kept waiting.old.items (tokens_shown defined.now.places.tokens.items)) (tokens_shown early.old.items) (event_shown event.now)) }
+    ensures waiting { OnOk result (kept waiting.new.items (tokens_shown defined.now.places.tokens.items)
+        ≡ to_come (kept waiting.old.items (tokens_shown defined.now.places.tokens.items)) (event_shown event.now)) }
+    ensures early { OnOk result (tokens_shown early.new.items
+        ≡ early_with (kept waiting.old.items (tokens_shown defined.now.places.tokens.items)) (tokens_shown early.old.items) (event_shown event.now)) }
 {
     if defines(event.how) {
         store(defined, waiting, event.token);
@@ -63,7 +66,7 @@ pub fn too_early<'a>(
     alloc: Global,
     defined: &Defined<'a>,
     order: &[Event<'a>],
-) -> Result<Vec<&'a Token>, NoMemory>
+) -> Result<Vec<&'a Token>, Memory>
     ensures { IfOk result (λ early. tokens_shown early.items ≡ too_early (tokens_shown defined.now.places.tokens.items) (events_shown order.now)) }
 {
     let mut waiting = vec![in alloc; true; defined.places.tokens.len()]?;

@@ -4,7 +4,7 @@ ghost use Rattle.bqn_scope.specs.declared.error.ScopeError.TheVariants as error;
 use bqn_base::{Memory, Refusal};
 use std::alloc::{AllocError, AllocFailed};
 
-/// Why a tree is not resolved: it is refused, or memory is wanting.
+/// Why a tree is not resolved: it is refused, or memory runs out.
 #[derive(Clone, Copy, Debug, PartialEq, Eq)]
 pub enum ScopeError {
     Refused(Refusal),
@@ -32,41 +32,5 @@ impl From<Memory> for ScopeError {
 
     fn from(_error: Memory) -> ScopeError {
         ScopeError::Memory
-    }
-}
-
-impl From<NoMemory> for ScopeError {
-    ghost from_gives = { λ _ given. given ≡ error.Memory };
-
-    fn from(_error: NoMemory) -> ScopeError {
-        ScopeError::Memory
-    }
-}
-
-/// Memory is wanting.
-#[derive(Clone, Copy, Debug, PartialEq, Eq)]
-pub struct NoMemory;
-
-impl From<AllocError> for NoMemory {
-    ghost from_gives = { λ _ given. given ≡ record {} };
-
-    fn from(_error: AllocError) -> NoMemory {
-        NoMemory
-    }
-}
-
-impl<T: Drop> From<AllocFailed<T>> for NoMemory {
-    ghost from_gives = { λ _ given. given ≡ record {} };
-
-    fn from(_error: AllocFailed<T>) -> NoMemory {
-        NoMemory
-    }
-}
-
-impl From<Memory> for NoMemory {
-    ghost from_gives = { λ _ given. given ≡ record {} };
-
-    fn from(_error: Memory) -> NoMemory {
-        NoMemory
     }
 }

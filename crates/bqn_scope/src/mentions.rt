@@ -4,19 +4,19 @@ ghost use Rattle.bqn_syntax.specs.scope.Mentions.{leaf_mention, expr_mentions, p
 ghost use Rattle.bqn_syntax.specs.grammar.Trees.{expr_of, part_of, step_of, derived_of, use_of, stmt_of, pattern_of, header_of, body_of, exprs, parts, patterns, steps, deriveds, uses, stmts, bodies};
 ghost use Rattle.bqn_scope.specs.Shown.{how_shown, mentions_backward, mentions_shown, scopes_shown, own_of, own_shown};
 
-use crate::error::NoMemory;
 use crate::mention::{How, Mention, Own};
 use crate::order::{by_arrow, order_of};
-use bqn_base::Row;
+use bqn_base::{Memory, Row};
 use bqn_syntax::{
     Arrow, BodyTree, Derived, Expr, Header, Kind, ModUse, Part, Pattern, Step, Stmt, Token,
 };
 use std::alloc::Global;
 
-/// Puts a name in front of mentions that stand from the last to the first, as each function here does.
-#[tactic(auto, using(bqn_syntax::specs::grammar::TreeEquations::tree_equations, crate::specs::Levels::levels, crate::proofs::Backward::backward_laws))]
-fn leaf<'a>(mentions: &mut Vec<Mention<'a>>, how: How, token: &'a Token) -> Result<(), NoMemory>
-    ensures { OnOk result (mentions_backward mentions.new.items ≡ leaf_mention (how_shown how) token.now.kind token.now (mentions_backward mentions.old.items)) }
+/// Puts a name before mentions that stand from the last to the first, as each function here does.
+#[tactic(auto, using(bqn_syntax::specs::grammar::TreeEquations::tree_equations, crate::specs::Equations::of_mentions, crate::proofs::Backward::backward_laws))]
+fn leaf<'a>(mentions: &mut Vec<Mention<'a>>, how: How, token: &'a Token) -> Result<(), Memory>
+    ensures { OnOk result (mentions_backward mentions.new.items
+        ≡ leaf_mention (how_shown how) token.now.kind token.now (mentions_backward mentions.old.items)) }
 {
     match &token.kind {
         Kind::Word(_, _) => mentions.push(Mention::Named(how, token))?,
@@ -28,8 +28,8 @@ fn leaf<'a>(mentions: &mut Vec<Mention<'a>>, how: How, token: &'a Token) -> Resu
 }
 
 #[cycle(pattern)]
-#[tactic(auto, using(bqn_syntax::specs::grammar::TreeEquations::tree_equations, crate::specs::Levels::levels, crate::proofs::Backward::backward_laws))]
-fn pattern<'a>(mentions: &mut Vec<Mention<'a>>, how: How, q: &'a Pattern) -> Result<(), NoMemory>
+#[tactic(auto, using(bqn_syntax::specs::grammar::TreeEquations::tree_equations, crate::specs::Equations::of_mentions, crate::proofs::Backward::backward_laws))]
+fn pattern<'a>(mentions: &mut Vec<Mention<'a>>, how: How, q: &'a Pattern) -> Result<(), Memory>
     ensures { OnOk result (mentions_backward mentions.new.items ≡ pattern_mentions (how_shown how) (pattern_of q.now) (mentions_backward mentions.old.items)) }
 {
     match q {
@@ -41,13 +41,14 @@ fn pattern<'a>(mentions: &mut Vec<Mention<'a>>, how: How, q: &'a Pattern) -> Res
 }
 
 #[cycle(pattern)]
-#[tactic(auto, using(bqn_syntax::specs::grammar::TreeEquations::tree_equations, crate::specs::Levels::levels, crate::proofs::Backward::backward_laws))]
+#[tactic(auto, using(bqn_syntax::specs::grammar::TreeEquations::tree_equations, crate::specs::Equations::of_mentions, crate::proofs::Backward::backward_laws))]
 fn patterns<'a>(
     mentions: &mut Vec<Mention<'a>>,
     how: How,
     all: &'a [Pattern],
-) -> Result<(), NoMemory>
-    ensures { OnOk result (mentions_backward mentions.new.items ≡ patterns_mentions (how_shown how) (patterns (map pattern_of all.now)) (mentions_backward mentions.old.items)) }
+) -> Result<(), Memory>
+    ensures { OnOk result (mentions_backward mentions.new.items
+        ≡ patterns_mentions (how_shown how) (patterns (map pattern_of all.now)) (mentions_backward mentions.old.items)) }
 {
     for q in all.iter().rev() {
         pattern(mentions, how, q)?;
@@ -55,8 +56,8 @@ fn patterns<'a>(
     Ok(())
 }
 
-#[tactic(auto, using(bqn_syntax::specs::grammar::TreeEquations::tree_equations, crate::specs::Levels::levels, crate::proofs::Backward::backward_laws))]
-fn targets<'a>(mentions: &mut Vec<Mention<'a>>, all: &'a [(Token, Arrow)]) -> Result<(), NoMemory>
+#[tactic(auto, using(bqn_syntax::specs::grammar::TreeEquations::tree_equations, crate::specs::Equations::of_mentions, crate::proofs::Backward::backward_laws))]
+fn targets<'a>(mentions: &mut Vec<Mention<'a>>, all: &'a [(Token, Arrow)]) -> Result<(), Memory>
     ensures { OnOk result (mentions_backward mentions.new.items ≡ target_mentions all.now (mentions_backward mentions.old.items)) }
 {
     for target in all.iter().rev() {
@@ -65,8 +66,8 @@ fn targets<'a>(mentions: &mut Vec<Mention<'a>>, all: &'a [(Token, Arrow)]) -> Re
     Ok(())
 }
 
-#[tactic(auto, using(bqn_syntax::specs::grammar::TreeEquations::tree_equations, crate::specs::Levels::levels, crate::proofs::Backward::backward_laws))]
-fn header<'a>(mentions: &mut Vec<Mention<'a>>, h: &'a Header) -> Result<(), NoMemory>
+#[tactic(auto, using(bqn_syntax::specs::grammar::TreeEquations::tree_equations, crate::specs::Equations::of_mentions, crate::proofs::Backward::backward_laws))]
+fn header<'a>(mentions: &mut Vec<Mention<'a>>, h: &'a Header) -> Result<(), Memory>
     ensures { OnOk result (mentions_backward mentions.new.items ≡ header_mentions (Some (header_of h.now)) (mentions_backward mentions.old.items)) }
 {
     if let Some(q) = &h.right {
@@ -86,8 +87,8 @@ fn header<'a>(mentions: &mut Vec<Mention<'a>>, h: &'a Header) -> Result<(), NoMe
 }
 
 #[cycle(mentions)]
-#[tactic(auto, using(bqn_syntax::specs::grammar::TreeEquations::tree_equations, crate::specs::Levels::levels, crate::proofs::Backward::backward_laws))]
-fn expr<'a>(alloc: Global, mentions: &mut Vec<Mention<'a>>, e: &'a Expr) -> Result<(), NoMemory>
+#[tactic(auto, using(bqn_syntax::specs::grammar::TreeEquations::tree_equations, crate::specs::Equations::of_mentions, crate::proofs::Backward::backward_laws))]
+fn expr<'a>(alloc: Global, mentions: &mut Vec<Mention<'a>>, e: &'a Expr) -> Result<(), Memory>
     ensures { OnOk result (mentions_backward mentions.new.items ≡ expr_mentions (expr_of e.now) (mentions_backward mentions.old.items)) }
 {
     match e {
@@ -115,8 +116,8 @@ fn expr<'a>(alloc: Global, mentions: &mut Vec<Mention<'a>>, e: &'a Expr) -> Resu
 }
 
 #[cycle(mentions)]
-#[tactic(auto, using(bqn_syntax::specs::grammar::TreeEquations::tree_equations, crate::specs::Levels::levels, crate::proofs::Backward::backward_laws))]
-fn part<'a>(alloc: Global, mentions: &mut Vec<Mention<'a>>, x: &'a Part) -> Result<(), NoMemory>
+#[tactic(auto, using(bqn_syntax::specs::grammar::TreeEquations::tree_equations, crate::specs::Equations::of_mentions, crate::proofs::Backward::backward_laws))]
+fn part<'a>(alloc: Global, mentions: &mut Vec<Mention<'a>>, x: &'a Part) -> Result<(), Memory>
     ensures { OnOk result (mentions_backward mentions.new.items ≡ part_mentions (part_of x.now) (mentions_backward mentions.old.items)) }
 {
     match x {
@@ -136,8 +137,8 @@ fn part<'a>(alloc: Global, mentions: &mut Vec<Mention<'a>>, x: &'a Part) -> Resu
 }
 
 #[cycle(mentions)]
-#[tactic(auto, using(bqn_syntax::specs::grammar::TreeEquations::tree_equations, crate::specs::Levels::levels, crate::proofs::Backward::backward_laws))]
-fn step<'a>(alloc: Global, mentions: &mut Vec<Mention<'a>>, s: &'a Step) -> Result<(), NoMemory>
+#[tactic(auto, using(bqn_syntax::specs::grammar::TreeEquations::tree_equations, crate::specs::Equations::of_mentions, crate::proofs::Backward::backward_laws))]
+fn step<'a>(alloc: Global, mentions: &mut Vec<Mention<'a>>, s: &'a Step) -> Result<(), Memory>
     ensures { OnOk result (mentions_backward mentions.new.items ≡ step_mentions (step_of s.now) (mentions_backward mentions.old.items)) }
 {
     match s {
@@ -157,12 +158,12 @@ fn step<'a>(alloc: Global, mentions: &mut Vec<Mention<'a>>, s: &'a Step) -> Resu
 }
 
 #[cycle(mentions)]
-#[tactic(auto, using(bqn_syntax::specs::grammar::TreeEquations::tree_equations, crate::specs::Levels::levels, crate::proofs::Backward::backward_laws))]
+#[tactic(auto, using(bqn_syntax::specs::grammar::TreeEquations::tree_equations, crate::specs::Equations::of_mentions, crate::proofs::Backward::backward_laws))]
 fn derived<'a>(
     alloc: Global,
     mentions: &mut Vec<Mention<'a>>,
     d: &'a Derived,
-) -> Result<(), NoMemory>
+) -> Result<(), Memory>
     ensures { OnOk result (mentions_backward mentions.new.items ≡ derived_mentions (derived_of d.now) (mentions_backward mentions.old.items)) }
 {
     uses(alloc, mentions, d.uses.list())?;
@@ -170,12 +171,12 @@ fn derived<'a>(
 }
 
 #[cycle(mentions)]
-#[tactic(auto, using(bqn_syntax::specs::grammar::TreeEquations::tree_equations, crate::specs::Levels::levels, crate::proofs::Backward::backward_laws))]
+#[tactic(auto, using(bqn_syntax::specs::grammar::TreeEquations::tree_equations, crate::specs::Equations::of_mentions, crate::proofs::Backward::backward_laws))]
 fn modifier<'a>(
     alloc: Global,
     mentions: &mut Vec<Mention<'a>>,
     u: &'a ModUse,
-) -> Result<(), NoMemory>
+) -> Result<(), Memory>
     ensures { OnOk result (mentions_backward mentions.new.items ≡ use_mentions (use_of u.now) (mentions_backward mentions.old.items)) }
 {
     match u {
@@ -188,12 +189,12 @@ fn modifier<'a>(
 }
 
 #[cycle(mentions)]
-#[tactic(auto, using(bqn_syntax::specs::grammar::TreeEquations::tree_equations, crate::specs::Levels::levels, crate::proofs::Backward::backward_laws))]
+#[tactic(auto, using(bqn_syntax::specs::grammar::TreeEquations::tree_equations, crate::specs::Equations::of_mentions, crate::proofs::Backward::backward_laws))]
 fn exprs<'a>(
     alloc: Global,
     mentions: &mut Vec<Mention<'a>>,
     all: &'a [Expr],
-) -> Result<(), NoMemory>
+) -> Result<(), Memory>
     ensures { OnOk result (mentions_backward mentions.new.items ≡ exprs_mentions (exprs (map expr_of all.now)) (mentions_backward mentions.old.items)) }
 {
     for e in all.iter().rev() {
@@ -203,12 +204,12 @@ fn exprs<'a>(
 }
 
 #[cycle(mentions)]
-#[tactic(auto, using(bqn_syntax::specs::grammar::TreeEquations::tree_equations, crate::specs::Levels::levels, crate::proofs::Backward::backward_laws))]
+#[tactic(auto, using(bqn_syntax::specs::grammar::TreeEquations::tree_equations, crate::specs::Equations::of_mentions, crate::proofs::Backward::backward_laws))]
 fn parts<'a>(
     alloc: Global,
     mentions: &mut Vec<Mention<'a>>,
     all: &'a [Part],
-) -> Result<(), NoMemory>
+) -> Result<(), Memory>
     ensures { OnOk result (mentions_backward mentions.new.items ≡ parts_mentions (parts (map part_of all.now)) (mentions_backward mentions.old.items)) }
 {
     for x in all.iter().rev() {
@@ -218,12 +219,12 @@ fn parts<'a>(
 }
 
 #[cycle(mentions)]
-#[tactic(auto, using(bqn_syntax::specs::grammar::TreeEquations::tree_equations, crate::specs::Levels::levels, crate::proofs::Backward::backward_laws))]
+#[tactic(auto, using(bqn_syntax::specs::grammar::TreeEquations::tree_equations, crate::specs::Equations::of_mentions, crate::proofs::Backward::backward_laws))]
 fn steps_of<'a>(
     alloc: Global,
     mentions: &mut Vec<Mention<'a>>,
     all: &'a [Step],
-) -> Result<(), NoMemory>
+) -> Result<(), Memory>
     ensures { OnOk result (mentions_backward mentions.new.items ≡ steps_mentions (steps (map step_of all.now)) (mentions_backward mentions.old.items)) }
 {
     for s in all {
@@ -233,12 +234,12 @@ fn steps_of<'a>(
 }
 
 #[cycle(mentions)]
-#[tactic(auto, using(bqn_syntax::specs::grammar::TreeEquations::tree_equations, crate::specs::Levels::levels, crate::proofs::Backward::backward_laws))]
+#[tactic(auto, using(bqn_syntax::specs::grammar::TreeEquations::tree_equations, crate::specs::Equations::of_mentions, crate::proofs::Backward::backward_laws))]
 fn uses<'a>(
     alloc: Global,
     mentions: &mut Vec<Mention<'a>>,
     all: &'a [ModUse],
-) -> Result<(), NoMemory>
+) -> Result<(), Memory>
     ensures { OnOk result (mentions_backward mentions.new.items ≡ uses_mentions (uses (map use_of all.now)) (mentions_backward mentions.old.items)) }
 {
     for u in all.iter().rev() {
@@ -248,13 +249,14 @@ fn uses<'a>(
 }
 
 #[cycle(mentions)]
-#[tactic(auto, using(bqn_syntax::specs::grammar::TreeEquations::tree_equations, crate::specs::Levels::levels, crate::proofs::Backward::backward_laws))]
+#[tactic(auto, using(bqn_syntax::specs::grammar::TreeEquations::tree_equations, crate::specs::Equations::of_mentions, crate::proofs::Backward::backward_laws))]
 fn deriveds<'a>(
     alloc: Global,
     mentions: &mut Vec<Mention<'a>>,
     all: &'a [Derived],
-) -> Result<(), NoMemory>
-    ensures { OnOk result (mentions_backward mentions.new.items ≡ deriveds_mentions (deriveds (map derived_of all.now)) (mentions_backward mentions.old.items)) }
+) -> Result<(), Memory>
+    ensures { OnOk result (mentions_backward mentions.new.items
+        ≡ deriveds_mentions (deriveds (map derived_of all.now)) (mentions_backward mentions.old.items)) }
 {
     for d in all.iter().rev() {
         derived(alloc, mentions, d)?;
@@ -263,8 +265,8 @@ fn deriveds<'a>(
 }
 
 #[cycle(mentions)]
-#[tactic(auto, using(bqn_syntax::specs::grammar::TreeEquations::tree_equations, crate::specs::Levels::levels, crate::proofs::Backward::backward_laws))]
-fn stmt<'a>(alloc: Global, mentions: &mut Vec<Mention<'a>>, s: &'a Stmt) -> Result<(), NoMemory>
+#[tactic(auto, using(bqn_syntax::specs::grammar::TreeEquations::tree_equations, crate::specs::Equations::of_mentions, crate::proofs::Backward::backward_laws))]
+fn stmt<'a>(alloc: Global, mentions: &mut Vec<Mention<'a>>, s: &'a Stmt) -> Result<(), Memory>
     ensures { OnOk result (mentions_backward mentions.new.items ≡ stmt_mentions (stmt_of s.now) (mentions_backward mentions.old.items)) }
 {
     match s {
@@ -274,12 +276,12 @@ fn stmt<'a>(alloc: Global, mentions: &mut Vec<Mention<'a>>, s: &'a Stmt) -> Resu
 }
 
 #[cycle(mentions)]
-#[tactic(auto, using(bqn_syntax::specs::grammar::TreeEquations::tree_equations, crate::specs::Levels::levels, crate::proofs::Backward::backward_laws))]
+#[tactic(auto, using(bqn_syntax::specs::grammar::TreeEquations::tree_equations, crate::specs::Equations::of_mentions, crate::proofs::Backward::backward_laws))]
 fn statements<'a>(
     alloc: Global,
     mentions: &mut Vec<Mention<'a>>,
     all: &'a [Stmt],
-) -> Result<(), NoMemory>
+) -> Result<(), Memory>
     ensures { OnOk result (mentions_backward mentions.new.items ≡ stmts_mentions (stmts (map stmt_of all.now)) (mentions_backward mentions.old.items)) }
 {
     for s in all.iter().rev() {
@@ -289,8 +291,8 @@ fn statements<'a>(
 }
 
 #[cycle(mentions)]
-#[tactic(auto, using(bqn_syntax::specs::grammar::TreeEquations::tree_equations, crate::specs::Levels::levels, crate::proofs::Backward::backward_laws))]
-fn bodies<'a>(alloc: Global, all: &'a [BodyTree]) -> Result<Row<Own<'a>>, NoMemory>
+#[tactic(auto, using(bqn_syntax::specs::grammar::TreeEquations::tree_equations, crate::specs::Equations::of_mentions, crate::proofs::Backward::backward_laws))]
+fn bodies<'a>(alloc: Global, all: &'a [BodyTree]) -> Result<Row<Own<'a>>, Memory>
     ensures { IfOk result (λ row. scopes_shown row ≡ scopes_of (bodies (map body_of all.now))) }
 {
     let mut owns = Vec::new(alloc);
@@ -303,8 +305,8 @@ fn bodies<'a>(alloc: Global, all: &'a [BodyTree]) -> Result<Row<Own<'a>>, NoMemo
 }
 
 #[cycle(mentions)]
-#[tactic(auto, using(bqn_syntax::specs::grammar::TreeEquations::tree_equations, crate::specs::Levels::levels, crate::proofs::Backward::backward_laws))]
-fn body<'a>(alloc: Global, b: &'a BodyTree) -> Result<Own<'a>, NoMemory>
+#[tactic(auto, using(bqn_syntax::specs::grammar::TreeEquations::tree_equations, crate::specs::Equations::of_mentions, crate::proofs::Backward::backward_laws))]
+fn body<'a>(alloc: Global, b: &'a BodyTree) -> Result<Own<'a>, Memory>
     ensures { IfOk result (λ own. own_of own ≡ own_shown (body_of b.now)) }
 {
     let mut mentions = Vec::new(alloc);
@@ -321,8 +323,8 @@ fn body<'a>(alloc: Global, b: &'a BodyTree) -> Result<Own<'a>, NoMemory>
 }
 
 /// The mentions of a program's own body, in text order.
-#[tactic(auto, using(bqn_syntax::specs::grammar::TreeEquations::tree_equations, crate::specs::Levels::levels, crate::proofs::Backward::backward_laws))]
-pub fn mentions_of<'a>(alloc: Global, body: &'a [Stmt]) -> Result<Vec<Mention<'a>>, NoMemory>
+#[tactic(auto, using(bqn_syntax::specs::grammar::TreeEquations::tree_equations, crate::specs::Equations::of_mentions, crate::proofs::Backward::backward_laws))]
+pub fn mentions_of<'a>(alloc: Global, body: &'a [Stmt]) -> Result<Vec<Mention<'a>>, Memory>
     ensures { IfOk result (λ mentions. mentions_shown mentions.items ≡ stmts_mentions (stmts (map stmt_of body.now)) no_mentions) }
 {
     let mut mentions = Vec::new(alloc);

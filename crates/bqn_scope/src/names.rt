@@ -10,7 +10,7 @@ use bqn_base::Name;
 use std::alloc::Global;
 use std::marker::Model;
 
-/// Why a name is not added: the list is full, or memory is wanting.
+/// Why a name is not added: the list is full, or memory runs out.
 #[derive(Clone, Copy, Debug, PartialEq, Eq)]
 pub enum NamesError {
     Full,

@@ -5,8 +5,8 @@ ghost use Rattle.bqn_syntax.specs.grammar.Trees.{expr_of, part_of, step_of, deri
 ghost use Rattle.bqn_scope.specs.Shown.{how_shown, events_backward, events_shown};
 ghost use Rattle.bqn_scope.specs.Unstarted.{unstarted_order};
 
-use crate::error::NoMemory;
 use crate::mention::{Event, How};
+use bqn_base::Memory;
 use bqn_syntax::{Arrow, Derived, Expr, Header, Kind, ModUse, Part, Pattern, Step, Stmt, Token};
 use std::alloc::Global;
 
@@ -21,9 +21,9 @@ pub fn by_arrow(arrow: Arrow) -> How
     }
 }
 
-/// Puts a name in front of events that stand from the last to the first, as each function here does.
+/// Puts a name before events that stand from the last to the first, as each function here does.
 #[tactic(auto, using(bqn_syntax::specs::grammar::TreeEquations::tree_equations, crate::proofs::Backward::backward_laws))]
-fn leaf<'a>(events: &mut Vec<Event<'a>>, how: How, token: &'a Token) -> Result<(), NoMemory>
+fn leaf<'a>(events: &mut Vec<Event<'a>>, how: How, token: &'a Token) -> Result<(), Memory>
     ensures { OnOk result (events_backward events.new.items ≡ leaf_order (how_shown how) token.now.kind token.now (events_backward events.old.items)) }
 {
     if let Kind::Word(_, _) = &token.kind {
@@ -34,7 +34,7 @@ fn leaf<'a>(events: &mut Vec<Event<'a>>, how: How, token: &'a Token) -> Result<(
 
 #[cycle(pattern)]
 #[tactic(auto, using(bqn_syntax::specs::grammar::TreeEquations::tree_equations, crate::proofs::Backward::backward_laws))]
-fn pattern<'a>(events: &mut Vec<Event<'a>>, how: How, q: &'a Pattern) -> Result<(), NoMemory>
+fn pattern<'a>(events: &mut Vec<Event<'a>>, how: How, q: &'a Pattern) -> Result<(), Memory>
     ensures { OnOk result (events_backward events.new.items ≡ pattern_order (how_shown how) (pattern_of q.now) (events_backward events.old.items)) }
 {
     match q {
@@ -47,8 +47,9 @@ fn pattern<'a>(events: &mut Vec<Event<'a>>, how: How, q: &'a Pattern) -> Result<
 
 #[cycle(pattern)]
 #[tactic(auto, using(bqn_syntax::specs::grammar::TreeEquations::tree_equations, crate::proofs::Backward::backward_laws))]
-fn patterns<'a>(events: &mut Vec<Event<'a>>, how: How, all: &'a [Pattern]) -> Result<(), NoMemory>
-    ensures { OnOk result (events_backward events.new.items ≡ patterns_order (how_shown how) (patterns (map pattern_of all.now)) (events_backward events.old.items)) }
+fn patterns<'a>(events: &mut Vec<Event<'a>>, how: How, all: &'a [Pattern]) -> Result<(), Memory>
+    ensures { OnOk result (events_backward events.new.items
+        ≡ patterns_order (how_shown how) (patterns (map pattern_of all.now)) (events_backward events.old.items)) }
 {
     for q in all.iter().rev() {
         pattern(events, how, q)?;
@@ -57,7 +58,7 @@ fn patterns<'a>(events: &mut Vec<Event<'a>>, how: How, all: &'a [Pattern]) -> Re
 }
 
 #[tactic(auto, using(bqn_syntax::specs::grammar::TreeEquations::tree_equations, crate::proofs::Backward::backward_laws))]
-fn targets<'a>(events: &mut Vec<Event<'a>>, all: &'a [(Token, Arrow)]) -> Result<(), NoMemory>
+fn targets<'a>(events: &mut Vec<Event<'a>>, all: &'a [(Token, Arrow)]) -> Result<(), Memory>
     ensures { OnOk result (events_backward events.new.items ≡ targets_order all.now (events_backward events.old.items)) }
 {
     for target in all {
@@ -67,8 +68,8 @@ fn targets<'a>(events: &mut Vec<Event<'a>>, all: &'a [(Token, Arrow)]) -> Result
 }
 
 #[cycle(order)]
-#[tactic(auto, using(bqn_syntax::specs::grammar::TreeEquations::tree_equations, crate::proofs::Backward::backward_laws, crate::proofs::Unstarted::unstarted_laws))]
-fn expr<'a>(events: &mut Vec<Event<'a>>, e: &'a Expr) -> Result<(), NoMemory>
+#[tactic(auto, using(bqn_syntax::specs::grammar::TreeEquations::tree_equations, crate::proofs::Backward::backward_laws, crate::proofs::Unstarted::start_laws))]
+fn expr<'a>(events: &mut Vec<Event<'a>>, e: &'a Expr) -> Result<(), Memory>
     ensures { OnOk result (events_backward events.new.items ≡ expr_order (expr_of e.now) (events_backward events.old.items)) }
 {
     match e {
@@ -97,8 +98,8 @@ fn expr<'a>(events: &mut Vec<Event<'a>>, e: &'a Expr) -> Result<(), NoMemory>
 }
 
 #[cycle(order)]
-#[tactic(auto, using(bqn_syntax::specs::grammar::TreeEquations::tree_equations, crate::proofs::Backward::backward_laws, crate::proofs::Unstarted::unstarted_laws))]
-fn unstarted<'a>(events: &mut Vec<Event<'a>>, all: &'a [Step]) -> Result<(), NoMemory>
+#[tactic(auto, using(bqn_syntax::specs::grammar::TreeEquations::tree_equations, crate::proofs::Backward::backward_laws, crate::proofs::Unstarted::start_laws))]
+fn unstarted<'a>(events: &mut Vec<Event<'a>>, all: &'a [Step]) -> Result<(), Memory>
     ensures { OnOk result (events_backward events.new.items ≡ unstarted_order (steps (map step_of all.now)) (events_backward events.old.items)) }
 {
     let Some((first, rest)) = all.split_first() else {
@@ -116,8 +117,8 @@ fn unstarted<'a>(events: &mut Vec<Event<'a>>, all: &'a [Step]) -> Result<(), NoM
 }
 
 #[cycle(order)]
-#[tactic(auto, using(bqn_syntax::specs::grammar::TreeEquations::tree_equations, crate::proofs::Backward::backward_laws, crate::proofs::Unstarted::unstarted_laws))]
-fn part<'a>(events: &mut Vec<Event<'a>>, x: &'a Part) -> Result<(), NoMemory>
+#[tactic(auto, using(bqn_syntax::specs::grammar::TreeEquations::tree_equations, crate::proofs::Backward::backward_laws, crate::proofs::Unstarted::start_laws))]
+fn part<'a>(events: &mut Vec<Event<'a>>, x: &'a Part) -> Result<(), Memory>
     ensures { OnOk result (events_backward events.new.items ≡ part_order (part_of x.now) (events_backward events.old.items)) }
 {
     match x {
@@ -132,8 +133,8 @@ fn part<'a>(events: &mut Vec<Event<'a>>, x: &'a Part) -> Result<(), NoMemory>
 }
 
 #[cycle(order)]
-#[tactic(auto, using(bqn_syntax::specs::grammar::TreeEquations::tree_equations, crate::proofs::Backward::backward_laws, crate::proofs::Unstarted::unstarted_laws))]
-fn step<'a>(events: &mut Vec<Event<'a>>, s: &'a Step) -> Result<(), NoMemory>
+#[tactic(auto, using(bqn_syntax::specs::grammar::TreeEquations::tree_equations, crate::proofs::Backward::backward_laws, crate::proofs::Unstarted::start_laws))]
+fn step<'a>(events: &mut Vec<Event<'a>>, s: &'a Step) -> Result<(), Memory>
     ensures { OnOk result (events_backward events.new.items ≡ step_order (step_of s.now) (events_backward events.old.items)) }
 {
     match s {
@@ -152,8 +153,8 @@ fn step<'a>(events: &mut Vec<Event<'a>>, s: &'a Step) -> Result<(), NoMemory>
 }
 
 #[cycle(order)]
-#[tactic(auto, using(bqn_syntax::specs::grammar::TreeEquations::tree_equations, crate::proofs::Backward::backward_laws, crate::proofs::Unstarted::unstarted_laws))]
-fn derived<'a>(events: &mut Vec<Event<'a>>, d: &'a Derived) -> Result<(), NoMemory>
+#[tactic(auto, using(bqn_syntax::specs::grammar::TreeEquations::tree_equations, crate::proofs::Backward::backward_laws, crate::proofs::Unstarted::start_laws))]
+fn derived<'a>(events: &mut Vec<Event<'a>>, d: &'a Derived) -> Result<(), Memory>
     ensures { OnOk result (events_backward events.new.items ≡ derived_order (derived_of d.now) (events_backward events.old.items)) }
 {
     part(events, &d.first)?;
@@ -161,8 +162,8 @@ fn derived<'a>(events: &mut Vec<Event<'a>>, d: &'a Derived) -> Result<(), NoMemo
 }
 
 #[cycle(order)]
-#[tactic(auto, using(bqn_syntax::specs::grammar::TreeEquations::tree_equations, crate::proofs::Backward::backward_laws, crate::proofs::Unstarted::unstarted_laws))]
-fn modifier<'a>(events: &mut Vec<Event<'a>>, u: &'a ModUse) -> Result<(), NoMemory>
+#[tactic(auto, using(bqn_syntax::specs::grammar::TreeEquations::tree_equations, crate::proofs::Backward::backward_laws, crate::proofs::Unstarted::start_laws))]
+fn modifier<'a>(events: &mut Vec<Event<'a>>, u: &'a ModUse) -> Result<(), Memory>
     ensures { OnOk result (events_backward events.new.items ≡ use_order (use_of u.now) (events_backward events.old.items)) }
 {
     match u {
@@ -175,8 +176,8 @@ fn modifier<'a>(events: &mut Vec<Event<'a>>, u: &'a ModUse) -> Result<(), NoMemo
 }
 
 #[cycle(order)]
-#[tactic(auto, using(bqn_syntax::specs::grammar::TreeEquations::tree_equations, crate::proofs::Backward::backward_laws, crate::proofs::Unstarted::unstarted_laws))]
-fn exprs<'a>(events: &mut Vec<Event<'a>>, all: &'a [Expr]) -> Result<(), NoMemory>
+#[tactic(auto, using(bqn_syntax::specs::grammar::TreeEquations::tree_equations, crate::proofs::Backward::backward_laws, crate::proofs::Unstarted::start_laws))]
+fn exprs<'a>(events: &mut Vec<Event<'a>>, all: &'a [Expr]) -> Result<(), Memory>
     ensures { OnOk result (events_backward events.new.items ≡ exprs_order (exprs (map expr_of all.now)) (events_backward events.old.items)) }
 {
     for e in all.iter().rev() {
@@ -186,8 +187,8 @@ fn exprs<'a>(events: &mut Vec<Event<'a>>, all: &'a [Expr]) -> Result<(), NoMemor
 }
 
 #[cycle(order)]
-#[tactic(auto, using(bqn_syntax::specs::grammar::TreeEquations::tree_equations, crate::proofs::Backward::backward_laws, crate::proofs::Unstarted::unstarted_laws))]
-fn parts<'a>(events: &mut Vec<Event<'a>>, all: &'a [Part]) -> Result<(), NoMemory>
+#[tactic(auto, using(bqn_syntax::specs::grammar::TreeEquations::tree_equations, crate::proofs::Backward::backward_laws, crate::proofs::Unstarted::start_laws))]
+fn parts<'a>(events: &mut Vec<Event<'a>>, all: &'a [Part]) -> Result<(), Memory>
     ensures { OnOk result (events_backward events.new.items ≡ parts_order (parts (map part_of all.now)) (events_backward events.old.items)) }
 {
     for x in all.iter().rev() {
@@ -197,8 +198,8 @@ fn parts<'a>(events: &mut Vec<Event<'a>>, all: &'a [Part]) -> Result<(), NoMemor
 }
 
 #[cycle(order)]
-#[tactic(auto, using(bqn_syntax::specs::grammar::TreeEquations::tree_equations, crate::proofs::Backward::backward_laws, crate::proofs::Unstarted::unstarted_laws))]
-fn steps_of<'a>(events: &mut Vec<Event<'a>>, all: &'a [Step]) -> Result<(), NoMemory>
+#[tactic(auto, using(bqn_syntax::specs::grammar::TreeEquations::tree_equations, crate::proofs::Backward::backward_laws, crate::proofs::Unstarted::start_laws))]
+fn steps_of<'a>(events: &mut Vec<Event<'a>>, all: &'a [Step]) -> Result<(), Memory>
     ensures { OnOk result (events_backward events.new.items ≡ steps_order (steps (map step_of all.now)) (events_backward events.old.items)) }
 {
     for s in all.iter().rev() {
@@ -208,8 +209,8 @@ fn steps_of<'a>(events: &mut Vec<Event<'a>>, all: &'a [Step]) -> Result<(), NoMe
 }
 
 #[cycle(order)]
-#[tactic(auto, using(bqn_syntax::specs::grammar::TreeEquations::tree_equations, crate::proofs::Backward::backward_laws, crate::proofs::Unstarted::unstarted_laws))]
-fn uses<'a>(events: &mut Vec<Event<'a>>, all: &'a [ModUse]) -> Result<(), NoMemory>
+#[tactic(auto, using(bqn_syntax::specs::grammar::TreeEquations::tree_equations, crate::proofs::Backward::backward_laws, crate::proofs::Unstarted::start_laws))]
+fn uses<'a>(events: &mut Vec<Event<'a>>, all: &'a [ModUse]) -> Result<(), Memory>
     ensures { OnOk result (events_backward events.new.items ≡ uses_order (uses (map use_of all.now)) (events_backward events.old.items)) }
 {
     for u in all {
@@ -219,8 +220,8 @@ fn uses<'a>(events: &mut Vec<Event<'a>>, all: &'a [ModUse]) -> Result<(), NoMemo
 }
 
 #[cycle(order)]
-#[tactic(auto, using(bqn_syntax::specs::grammar::TreeEquations::tree_equations, crate::proofs::Backward::backward_laws, crate::proofs::Unstarted::unstarted_laws))]
-fn deriveds<'a>(events: &mut Vec<Event<'a>>, all: &'a [Derived]) -> Result<(), NoMemory>
+#[tactic(auto, using(bqn_syntax::specs::grammar::TreeEquations::tree_equations, crate::proofs::Backward::backward_laws, crate::proofs::Unstarted::start_laws))]
+fn deriveds<'a>(events: &mut Vec<Event<'a>>, all: &'a [Derived]) -> Result<(), Memory>
     ensures { OnOk result (events_backward events.new.items ≡ deriveds_order (deriveds (map derived_of all.now)) (events_backward events.old.items)) }
 {
     for d in all {
@@ -230,7 +231,7 @@ fn deriveds<'a>(events: &mut Vec<Event<'a>>, all: &'a [Derived]) -> Result<(), N
 }
 
 #[tactic(auto, using(bqn_syntax::specs::grammar::TreeEquations::tree_equations, crate::proofs::Backward::backward_laws))]
-fn stmt<'a>(events: &mut Vec<Event<'a>>, s: &'a Stmt) -> Result<(), NoMemory>
+fn stmt<'a>(events: &mut Vec<Event<'a>>, s: &'a Stmt) -> Result<(), Memory>
     ensures { OnOk result (events_backward events.new.items ≡ stmt_order (stmt_of s.now) (events_backward events.old.items)) }
 {
     match s {
@@ -240,7 +241,7 @@ fn stmt<'a>(events: &mut Vec<Event<'a>>, s: &'a Stmt) -> Result<(), NoMemory>
 }
 
 #[tactic(auto, using(bqn_syntax::specs::grammar::TreeEquations::tree_equations, crate::proofs::Backward::backward_laws))]
-fn statements<'a>(events: &mut Vec<Event<'a>>, all: &'a [Stmt]) -> Result<(), NoMemory>
+fn statements<'a>(events: &mut Vec<Event<'a>>, all: &'a [Stmt]) -> Result<(), Memory>
     ensures { OnOk result (events_backward events.new.items ≡ stmts_order (stmts (map stmt_of all.now)) (events_backward events.old.items)) }
 {
     for s in all.iter().rev() {
@@ -250,7 +251,7 @@ fn statements<'a>(events: &mut Vec<Event<'a>>, all: &'a [Stmt]) -> Result<(), No
 }
 
 #[tactic(auto, using(bqn_syntax::specs::grammar::TreeEquations::tree_equations, crate::proofs::Backward::backward_laws))]
-fn header<'a>(events: &mut Vec<Event<'a>>, h: &'a Header) -> Result<(), NoMemory>
+fn header<'a>(events: &mut Vec<Event<'a>>, h: &'a Header) -> Result<(), Memory>
     ensures { OnOk result (events_backward events.new.items ≡ header_order (Some (header_of h.now)) (events_backward events.old.items)) }
 {
     if let Some(q) = &h.right {
@@ -275,7 +276,7 @@ pub fn order_of<'a>(
     alloc: Global,
     heading: Option<&'a Header>,
     body: &'a [Stmt],
-) -> Result<Vec<Event<'a>>, NoMemory>
+) -> Result<Vec<Event<'a>>, Memory>
     ensures { IfOk result (λ events. events_shown events.items ≡ order_of (option_map header_of (option_copied heading.entry)) (stmts (map stmt_of body.now))) }
 {
     let mut events = Vec::new(alloc);

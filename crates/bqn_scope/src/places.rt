@@ -4,7 +4,7 @@ ghost use Rattle.std.proofs.Props.{props};
 ghost use Rattle.bqn_syntax.specs.scope.Scope.{same_place};
 ghost use Rattle.bqn_scope.specs.Tokens.{tokens_shown, spot, spots_of, same_spot};
 
-use crate::error::NoMemory;
+use bqn_base::Memory;
 use bqn_syntax::Token;
 use indexmap::IndexSet;
 use std::alloc::Global;
@@ -20,9 +20,9 @@ pub struct Places<'a> {
 
 impl<'a> Places<'a> {
     /// The tokens by their places. Where two stand in one place, which no source has, this gives
-    /// want of memory.
+    /// out of memory.
     #[tactic(auto, using(crate::proofs::Spots::spot_laws))]
-    pub fn new(alloc: Global, tokens: Vec<&'a Token>) -> Result<Places<'a>, NoMemory>
+    pub fn new(alloc: Global, tokens: Vec<&'a Token>) -> Result<Places<'a>, Memory>
         ensures { IfOk result (λ places. tokens_shown places.tokens.items ≡ tokens_shown tokens.entry.items) }
     {
         let spots = spots_in(alloc, tokens.as_slice())?;
@@ -51,7 +51,7 @@ impl<'a> Places<'a> {
 
 /// The places of tokens.
 #[tactic(auto, using(crate::proofs::Spots::spot_laws))]
-fn spots_in(alloc: Global, tokens: &[&Token]) -> Result<IndexSet<(u32, u32)>, NoMemory>
+fn spots_in(alloc: Global, tokens: &[&Token]) -> Result<IndexSet<(u32, u32)>, Memory>
     ensures placed { IfOk result (λ spots. spots.keys ≡ spots_of (tokens_shown tokens.entry.now)) }
     ensures distinct { IfOk result (λ spots. IsDistinct same_spot spots.keys) }
 {
@@ -59,7 +59,7 @@ fn spots_in(alloc: Global, tokens: &[&Token]) -> Result<IndexSet<(u32, u32)>, No
     'tokens: for token in tokens {
         let (_, is_new) = spots.insert_full((token.place.line, token.place.column))?;
         if !is_new {
-            return Err(NoMemory);
+            return Err(Memory);
         }
     }
     Ok(spots)

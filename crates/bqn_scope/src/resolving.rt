@@ -57,7 +57,9 @@ fn bodies_of_program(
     outer: &Spellings,
     mentions: &[Mention],
 ) -> Result<Vec<BodyNames>, ScopeError>
-    ensures { IfOk result (λ bodies. bodies_shown bodies.items ≡ inside 0 (mentions_shown mentions.now) (text.body_names (length outer.now) (top_scope outer.now (mentions_shown mentions.now) []) (mentions_shown mentions.now) ∷ [])) }
+    ensures { IfOk result (λ bodies. bodies_shown bodies.items
+        ≡ inside 0 (mentions_shown mentions.now) (text.body_names (length outer.now) (top_scope outer.now (mentions_shown mentions.now) [])
+        (mentions_shown mentions.now) ∷ [])) }
 {
     let Ok(parent) = u32::try_from(outer.len()) else {
         return Err(ScopeError::Memory);
@@ -94,7 +96,7 @@ fn parts_of<'a>(
     }
 }
 
-/// The bodies of a tree behind these names, and the use of each name; or the tree's first refusal
+/// The bodies of a tree after these names, and the use of each name; or the tree's first refusal
 /// in text order: Undeclared, Early, Redefined or UnknownSystem.
 pub fn resolve(alloc: Global, tree: Tree, outer: &Names) -> Result<Resolved, ScopeError>
     ensures { Resolves (resolution outer.now (tree_of tree)) tree result }

@@ -6,10 +6,10 @@ ghost use Rattle.bqn_scope.specs.Tokens.{names_of_tokens, tokens_shown};
 
 use crate::defined::{Defined, definitions, name_of};
 use crate::early::too_early;
-use crate::error::NoMemory;
 use crate::mention::{Event, Mention};
 use crate::places::Places;
 use crate::spellings::Spellings;
+use bqn_base::Memory;
 use bqn_syntax::Token;
 use std::alloc::Global;
 
@@ -21,13 +21,13 @@ pub struct Scope<'a> {
     pub in_block: bool,
 }
 
-/// The definitions of a body behind these names.
+/// The definitions of a body after these names.
 pub fn definitions_in<'a>(
     alloc: Global,
     outer: &Spellings,
     in_block: bool,
     mentions: &[Mention<'a>],
-) -> Result<Defined<'a>, NoMemory>
+) -> Result<Defined<'a>, Memory>
     ensures { IfOk result (λ defined. tokens_shown defined.places.tokens.items ≡ definitions (known_in outer.now in_block) (mentions_shown mentions.now)) }
 {
     if in_block {
@@ -37,15 +37,16 @@ pub fn definitions_in<'a>(
     }
 }
 
-/// The scope of a body behind these names.
+/// The scope of a body after these names.
 pub fn scope_of<'a>(
     alloc: Global,
     outer: &Spellings,
     in_block: bool,
     mentions: &[Mention<'a>],
     order: &[Event<'a>],
-) -> Result<Scope<'a>, NoMemory>
-    ensures { IfOk result (λ s. scope_shown outer.now s ≡ scope (known_in outer.now in_block) (definitions (known_in outer.now in_block) (mentions_shown mentions.now)) (events_shown order.now) in_block) }
+) -> Result<Scope<'a>, Memory>
+    ensures { IfOk result (λ s. scope_shown outer.now s
+        ≡ scope (known_in outer.now in_block) (definitions (known_in outer.now in_block) (mentions_shown mentions.now)) (events_shown order.now) in_block) }
 {
     let defined = definitions_in(alloc, outer, in_block, mentions)?;
     let tokens = too_early(alloc, &defined, order)?;
@@ -64,7 +65,7 @@ pub fn slot(
     in_block: bool,
     outer: &Spellings,
     name: &[char],
-) -> Result<Option<usize>, NoMemory>
+) -> Result<Option<usize>, Memory>
     ensures { IfOk result (λ found. found ≡ place_of (known_in outer.now in_block ++ names_of_tokens (tokens_shown defined.now.places.tokens.items)) name.now) }
 {
     if in_block {
@@ -76,7 +77,7 @@ pub fn slot(
     match defined.names.position(name) {
         Some(place) => match outer.len().checked_add(place) {
             Some(found) => Ok(Some(found)),
-            None => Err(NoMemory),
+            None => Err(Memory),
         },
         None => Ok(None),
     }

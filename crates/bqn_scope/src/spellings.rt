@@ -94,7 +94,7 @@ impl Spellings {
         Ok(())
     }
 
-    /// Puts all names behind others.
+    /// Puts all names after others.
     #[tactic(auto, using(crate::proofs::Spelling::name_laws))]
     pub fn append_to(&self, names: &mut Vec<Name>) -> Result<(), Memory>
         ensures { OnOk result (names.new.items ≡ names.old.items ++ self.now) }

@@ -60,7 +60,8 @@ fn read(
     uses: &mut Vec<Use>,
 ) -> Result<(), ScopeError>
     requires { IsBound around.now }
-    ensures { Writes (text.read (list_any (text.same_place token.now) (tokens_shown scope.now.early.tokens.items)) token.now (text.sees (bodies_around around.now) (text.name_of token.now)) (uses_shown uses.old.items)) uses.new.items result }
+    ensures { Writes (text.read (list_any (text.same_place token.now) (tokens_shown scope.now.early.tokens.items)) token.now
+        (text.sees (bodies_around around.now) (text.name_of token.now)) (uses_shown uses.old.items)) uses.new.items result }
 {
     if scope.early.contains(token) {
         return Err(ScopeError::Refused(Refusal::Early(token.place)));
@@ -76,7 +77,8 @@ fn define(
     uses: &mut Vec<Use>,
 ) -> Result<(), ScopeError>
     requires { IsBound around.now }
-    ensures { Writes (text.define (text.is_again (tokens_shown scope.now.defined.places.tokens.items) token.now) token.now (text.sees (bodies_around around.now) (text.name_of token.now)) (uses_shown uses.old.items)) uses.new.items result }
+    ensures { Writes (text.define (text.is_again (tokens_shown scope.now.defined.places.tokens.items) token.now) token.now
+        (text.sees (bodies_around around.now) (text.name_of token.now)) (uses_shown uses.old.items)) uses.new.items result }
 {
     if is_again(scope, token) {
         return Err(ScopeError::Refused(Refusal::Redefined(token.place)));

@@ -10,9 +10,9 @@ use crate::mention::{Mention, Own};
 use crate::used::{Use, named, special, system};
 use std::alloc::Global;
 
-/// Writes the uses of mentions behind others, from the innermost of these bodies.
+/// Writes the uses of mentions after others, from the innermost of these bodies.
 #[cycle(walk)]
-#[tactic(auto, using(crate::specs::Levels::levels, crate::proofs::Uses::walk_laws))]
+#[tactic(auto, using(crate::specs::Equations::of_mentions, crate::proofs::Uses::walk_laws))]
 pub fn walk<'a>(
     alloc: Global,
     around: &mut Around<'a>,
@@ -35,7 +35,7 @@ pub fn walk<'a>(
 
 /// Writes the uses of one mention.
 #[cycle(walk)]
-#[tactic(auto, using(crate::specs::Levels::levels, crate::proofs::Uses::walk_laws))]
+#[tactic(auto, using(crate::specs::Equations::of_mentions, crate::proofs::Uses::walk_laws))]
 fn mention<'a>(
     alloc: Global,
     around: &mut Around<'a>,
@@ -57,7 +57,7 @@ fn mention<'a>(
 
 /// Writes the uses of the bodies of a block.
 #[cycle(walk)]
-#[tactic(auto, using(crate::specs::Levels::levels, crate::proofs::Uses::walk_laws))]
+#[tactic(auto, using(crate::specs::Equations::of_mentions, crate::proofs::Uses::walk_laws))]
 fn inside<'a>(
     alloc: Global,
     around: &mut Around<'a>,
@@ -80,7 +80,7 @@ fn inside<'a>(
 
 /// Writes the uses of one body of a block.
 #[cycle(walk)]
-#[tactic(auto, using(crate::specs::Levels::levels, crate::proofs::Uses::walk_laws))]
+#[tactic(auto, using(crate::specs::Equations::of_mentions, crate::proofs::Uses::walk_laws))]
 fn body<'a>(
     alloc: Global,
     around: &mut Around<'a>,

@@ -1,5 +1,6 @@
 -- Trees, the token lists that spell them, and the walk that finds the tree of a token list.
 pub mod Brackets
+pub mod Punctuation
 pub mod Trees
 pub mod TreeEquations
 pub mod Sorts

@@ -9,7 +9,7 @@ use Rattle.bqn_syntax.specs.declared.sort.Tag.TheVariants as tag
 use Rattle.bqn_syntax.specs.grammar.Sorts.{same_tag}
 use Rattle.bqn_syntax.specs.grammar.Headers.{own_tag}
 use Rattle.bqn_syntax.specs.grammar.Trees.{Pattern, Header, BodyTree, body, Stmts}
-use Rattle.bqn_syntax.specs.grammar.Classes.{Seen, nothing, Marks, marks_of, Calls, Monadic, Dyadic, Both, argument_calls, body_calls, has_predicate, is_some, has_argument, has_one_self, has_two, has_one, has_function, is_deferred, heads, in_stmts}
+use Rattle.bqn_syntax.specs.grammar.Classes.{Seen, nothing, Marks, marks_of, Calls, Monadic, Dyadic, Both, argument_calls, body_calls, has_predicate, is_some, has_argument, has_one_self, has_two, has_one, has_function, is_deferred, heads, seen_in_stmts}
 use Rattle.bqn_syntax.specs.grammar.Well.{SelfFits, HeaderFits, WellBody, WellStmts}
 use Rattle.bqn_syntax.specs.grammar.Classes.{waits}
 use Rattle.bqn_code.specs.Conditions.{is_modifier, is_modifier2, is_run_on, is_kind_for}
@@ -140,7 +140,7 @@ body_fits ms c plain facts few (body h ss) among well =
     }
 
 -- the body of a program, where no special name occurs
-pub program_fits : (ss : Stmts) → in_stmts ss ≡ nothing → WellStmts true ss → BodyFits class.Immediate 1 (body None ss)
+pub program_fits : (ss : Stmts) → seen_in_stmts ss ≡ nothing → WellStmts true ss → BodyFits class.Immediate 1 (body None ss)
 program_fits ss free well = record {
   well = (tt, well);
   seen = subst (λ (s : Seen). SeenPass (is_run_on class.Immediate) s) (sym free) (record { args = λ h. absurd (false≢true h); one = λ h. absurd (false≢true h); one_self = λ h. absurd (false≢true h); two = λ h. absurd (false≢true h) });

@@ -6,7 +6,7 @@ use Rattle.bqn_syntax.specs.declared.tree.Class.{Class}
 use Rattle.bqn_syntax.specs.grammar.Trees.{Expr, Value, Train, Modifier, Use, One, Two, Part, Leaf, Elements, Merge, Paren, Block as Braces, Field, Strand, Nothing, Step, Apply, Assign, Modify, Stmt, Eval, Predicate, Export, BlockTree, block, BodyTree, body, Derived, derived, none, some, Exprs, no_exprs, and_exprs, Uses, no_uses, and_uses, Parts, no_parts, and_parts, Steps, no_steps, and_steps, Stmts, no_stmts, and_stmts, Bodies, no_bodies, and_bodies, Deriveds, no_deriveds, and_deriveds}
 use Rattle.bqn_syntax.specs.blocks.Counting.{how_many}
 use Rattle.bqn_syntax.specs.blocks.Blocks.{and_plain, plain_in}
-use Rattle.bqn_syntax.specs.grammar.Classes.{Marks, marks_of, marks_in, in_stmts, nothing}
+use Rattle.bqn_syntax.specs.grammar.Classes.{Marks, marks_of, marks_in, seen_in_stmts, nothing}
 use Rattle.bqn_syntax.specs.grammar.Classes.{waits}
 use Rattle.bqn_syntax.specs.grammar.Well.{WellExpr, WellPart, WellSteps, WellStep, WellDerived, WellUses, WellUse, WellDeriveds, WellExprs, WellParts, WellStmt, WellStmts, WellBody, WellBodies, WellBlock}
 use Rattle.bqn_compile.specs.declared.count.Count.{Count}
@@ -112,5 +112,5 @@ stmts_in_block : (ss : Stmts) → WellStmts false ss → WellStmts true ss
 stmts_in_block no_stmts h = tt
 stmts_in_block (and_stmts s ss) h = (stmt_in_block s h.0, stmts_in_block ss h.1)
 
-pub well_bodies_fit : (ss : Stmts) → in_stmts ss ≡ nothing → WellStmts false ss → EveryInProgram Fitting ss
+pub well_bodies_fit : (ss : Stmts) → seen_in_stmts ss ≡ nothing → WellStmts false ss → EveryInProgram Fitting ss
 well_bodies_fit ss free well = (program_fits ss free (stmts_in_block ss well), stmts_fit 0 ss at_start false well)

@@ -8,6 +8,7 @@ use Rattle.bqn_syntax.specs.declared.open.Open.{Open}
 use Rattle.bqn_syntax.specs.declared.token.Kind.{Kind}
 use Rattle.bqn_syntax.specs.declared.token.Kind.TheVariants as kind
 use Rattle.bqn_syntax.specs.declared.token.Token.{Token}
+use Rattle.bqn_syntax.specs.grammar.Punctuation as punctuation
 use Rattle.bqn_syntax.specs.text.Table.{is_one_of}
 
 abbrev pub is_opening : ℕ → Bool
@@ -19,10 +20,10 @@ is_closing c = is_one_of (codes ")}⟩]") c
 -- the bracket that closes an opening one
 abbrev pub closing_of : ℕ → ℕ
 closing_of c =
-    if c == 40 then 41
-    else if c == 123 then 125
-    else if c == 10216 then 10217
-    else if c == 91 then 93
+    if c == punctuation.open_round then punctuation.close_round
+    else if c == punctuation.open_curly then punctuation.close_curly
+    else if c == punctuation.open_angle then punctuation.close_angle
+    else if c == punctuation.open_square then punctuation.close_square
     else c
 
 -- so many brackets may be open at once
@@ -34,7 +35,7 @@ pub record Nesting : Type 0 where
   pub around : List Open
   pub partners : List ℕ
 
--- behind a token that is its own partner, at least until it is closed
+-- after a token that is its own partner, at least until it is closed
 abbrev pub alone : ℕ → Nesting → Nesting
 alone index now = record { around = now.around; partners = now.partners ++ index ∷ [] }
 
@@ -43,7 +44,7 @@ opened bracket now =
     if length now.around == deepest then Err (refusal.TooNested bracket.place)
     else Ok (record { around = bracket ∷ now.around; partners = now.partners ++ bracket.index ∷ [] })
 
--- behind a bracket that closes
+-- after a bracket that closes
 abbrev pub closed : Open → List Open → List ℕ → Result Nesting Refusal
 closed bracket [] partners = Err (refusal.Bracket bracket.place)
 closed bracket (innermost ∷ around) partners =
@@ -51,14 +52,14 @@ closed bracket (innermost ∷ around) partners =
     then Ok (record { around = around; partners = set partners innermost.index bracket.index ++ innermost.index ∷ [] })
     else Err (refusal.Bracket bracket.place)
 
--- behind a mark of punctuation
+-- after a mark of punctuation
 abbrev pub marked : Open → Nesting → Result Nesting Refusal
 marked mark now =
     if is_opening mark.code then opened mark now
     else if is_closing mark.code then closed mark now.around now.partners
     else Ok (alone mark.index now)
 
--- behind a token: its index and what it is
+-- after a token: its index and what it is
 abbrev pub behind_token : ℕ → Kind → Place → Nesting → Result Nesting Refusal
 behind_token index (kind.Punct c) place now = marked (record { index = index; code = c; place = place }) now
 behind_token index other place now = Ok (alone index now)

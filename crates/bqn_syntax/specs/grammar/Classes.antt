@@ -29,80 +29,80 @@ nothing = seen false false false false
 abbrev pub and : Seen → Seen → Seen
 and s r = seen (s.args || r.args) (s.one || r.one) (s.one_self || r.one_self) (s.two || r.two)
 
-abbrev pub in_kind : Kind → Seen
-in_kind (kind.Special special.Left r) = seen true false false false
-in_kind (kind.Special special.Right r) = seen true false false false
-in_kind (kind.Special special.Own r) = seen true false false false
-in_kind (kind.Special special.LeftOperand r) = seen false true false false
-in_kind (kind.Special special.RightOperand r) = seen false false false true
-in_kind (kind.Special special.Modifier role.Mod1) = seen false false true false
-in_kind (kind.Special special.Modifier role.Mod2) = seen false false false true
-in_kind (kind.Special special.Modifier r) = seen false true false false
-in_kind _ = nothing
+abbrev pub seen_in_kind : Kind → Seen
+seen_in_kind (kind.Special special.Left r) = seen true false false false
+seen_in_kind (kind.Special special.Right r) = seen true false false false
+seen_in_kind (kind.Special special.Own r) = seen true false false false
+seen_in_kind (kind.Special special.LeftOperand r) = seen false true false false
+seen_in_kind (kind.Special special.RightOperand r) = seen false false false true
+seen_in_kind (kind.Special special.Modifier role.Mod1) = seen false false true false
+seen_in_kind (kind.Special special.Modifier role.Mod2) = seen false false false true
+seen_in_kind (kind.Special special.Modifier r) = seen false true false false
+seen_in_kind _ = nothing
 
 -- what occurs in a tree, blocks inside it aside
 abbrev mutual
-  pub in_expr : Expr → Seen
-  in_expr (Value last steps) = and (in_maybe last) (in_steps steps)
-  in_expr (Train targets parts) = in_deriveds parts
-  in_expr (Modifier targets x) = in_part x
+  pub seen_in_expr : Expr → Seen
+  seen_in_expr (Value last steps) = and (seen_in_maybe last) (seen_in_steps steps)
+  seen_in_expr (Train targets parts) = seen_in_deriveds parts
+  seen_in_expr (Modifier targets x) = seen_in_part x
 
-  pub in_part : Part → Seen
-  in_part (Leaf t) = in_kind t.kind
-  in_part (Elements es) = in_exprs es
-  in_part (Merge es) = in_exprs es
-  in_part (Paren e) = in_expr e
-  in_part (Block b) = nothing
-  in_part (Field base names) = in_part base
-  in_part (Strand ps) = in_parts ps
-  in_part (Nothing place) = nothing
+  pub seen_in_part : Part → Seen
+  seen_in_part (Leaf t) = seen_in_kind t.kind
+  seen_in_part (Elements es) = seen_in_exprs es
+  seen_in_part (Merge es) = seen_in_exprs es
+  seen_in_part (Paren e) = seen_in_expr e
+  seen_in_part (Block b) = nothing
+  seen_in_part (Field base names) = seen_in_part base
+  seen_in_part (Strand ps) = seen_in_parts ps
+  seen_in_part (Nothing place) = nothing
 
-  pub in_maybe : MaybePart → Seen
-  in_maybe none = nothing
-  in_maybe (some x) = in_part x
+  pub seen_in_maybe : MaybePart → Seen
+  seen_in_maybe none = nothing
+  seen_in_maybe (some x) = seen_in_part x
 
-  pub in_step : Step → Seen
-  in_step (Apply f left) = and (in_derived f) (in_maybe left)
-  in_step (Assign q a) = nothing
-  in_step (Modify t f) = in_derived f
+  pub seen_in_step : Step → Seen
+  seen_in_step (Apply f left) = and (seen_in_derived f) (seen_in_maybe left)
+  seen_in_step (Assign q a) = nothing
+  seen_in_step (Modify t f) = seen_in_derived f
 
-  pub in_derived : Derived → Seen
-  in_derived (derived x us) = and (in_part x) (in_uses us)
+  pub seen_in_derived : Derived → Seen
+  seen_in_derived (derived x us) = and (seen_in_part x) (seen_in_uses us)
 
-  pub in_use : Use → Seen
-  in_use (One m) = in_part m
-  in_use (Two m x) = and (in_part m) (in_part x)
+  pub seen_in_use : Use → Seen
+  seen_in_use (One m) = seen_in_part m
+  seen_in_use (Two m x) = and (seen_in_part m) (seen_in_part x)
 
-  pub in_stmt : Stmt → Seen
-  in_stmt (Eval e) = in_expr e
-  in_stmt (Predicate e) = in_expr e
-  in_stmt (Export q) = nothing
+  pub seen_in_stmt : Stmt → Seen
+  seen_in_stmt (Eval e) = seen_in_expr e
+  seen_in_stmt (Predicate e) = seen_in_expr e
+  seen_in_stmt (Export q) = nothing
 
-  pub in_exprs : Exprs → Seen
-  in_exprs no_exprs = nothing
-  in_exprs (and_exprs e es) = and (in_expr e) (in_exprs es)
+  pub seen_in_exprs : Exprs → Seen
+  seen_in_exprs no_exprs = nothing
+  seen_in_exprs (and_exprs e es) = and (seen_in_expr e) (seen_in_exprs es)
 
-  pub in_uses : Uses → Seen
-  in_uses no_uses = nothing
-  in_uses (and_uses u us) = and (in_use u) (in_uses us)
+  pub seen_in_uses : Uses → Seen
+  seen_in_uses no_uses = nothing
+  seen_in_uses (and_uses u us) = and (seen_in_use u) (seen_in_uses us)
 
-  pub in_parts : Parts → Seen
-  in_parts no_parts = nothing
-  in_parts (and_parts x xs) = and (in_part x) (in_parts xs)
+  pub seen_in_parts : Parts → Seen
+  seen_in_parts no_parts = nothing
+  seen_in_parts (and_parts x xs) = and (seen_in_part x) (seen_in_parts xs)
 
-  pub in_steps : Steps → Seen
-  in_steps no_steps = nothing
-  in_steps (and_steps s ss) = and (in_step s) (in_steps ss)
+  pub seen_in_steps : Steps → Seen
+  seen_in_steps no_steps = nothing
+  seen_in_steps (and_steps s ss) = and (seen_in_step s) (seen_in_steps ss)
 
-  pub in_stmts : Stmts → Seen
-  in_stmts no_stmts = nothing
-  in_stmts (and_stmts s ss) = and (in_stmt s) (in_stmts ss)
+  pub seen_in_stmts : Stmts → Seen
+  seen_in_stmts no_stmts = nothing
+  seen_in_stmts (and_stmts s ss) = and (seen_in_stmt s) (seen_in_stmts ss)
 
-  pub in_deriveds : Deriveds → Seen
-  in_deriveds no_deriveds = nothing
-  in_deriveds (and_deriveds d ds) = and (in_derived d) (in_deriveds ds)
+  pub seen_in_deriveds : Deriveds → Seen
+  seen_in_deriveds no_deriveds = nothing
+  seen_in_deriveds (and_deriveds d ds) = and (seen_in_derived d) (seen_in_deriveds ds)
 
--- what the class of a block asks of a body: its header, whether it has a predicate, how many statements stand behind the
+-- what the class of a block asks of a body: its header, whether it has a predicate, how many statements stand after the
 -- last one, and which special names occur in its statements
 pub record Marks : Type 0 where
   pub header : Option Header
@@ -118,14 +118,14 @@ abbrev pub has_predicate : Stmts → Bool
 has_predicate no_stmts = false
 has_predicate (and_stmts s ss) = is_predicate s || has_predicate ss
 
--- so many statements stand behind the last predicate, where so many stood before these
+-- so many statements stand after the last predicate, where so many stood before these
 abbrev pub since_predicate : ℕ → Stmts → ℕ
 since_predicate so no_stmts = so
 since_predicate so (and_stmts (Predicate e) ss) = since_predicate 0 ss
 since_predicate so (and_stmts s ss) = since_predicate (so + 1) ss
 
 abbrev pub marks_of : BodyTree → Marks
-marks_of (body h ss) = record { header = h; predicate = has_predicate ss; statements = since_predicate 0 ss; seen = in_stmts ss }
+marks_of (body h ss) = record { header = h; predicate = has_predicate ss; statements = since_predicate 0 ss; seen = seen_in_stmts ss }
 
 abbrev pub marks_in : Bodies → List Marks
 marks_in no_bodies = []

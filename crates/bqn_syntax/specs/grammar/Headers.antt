@@ -144,7 +144,8 @@ right_argument group = header_pattern group
 
 abbrev pub with_right : Option Token → Option Token → Option Token → List (List Element) → Option Header
 with_right l (Some own) r [] = Some (record { left = None; left_operand = l; own = own; right_operand = r; right = None })
-with_right l (Some own) r (group ∷ []) = option_map (λ q. record { left = None; left_operand = l; own = own; right_operand = r; right = Some q }) (right_argument group)
+with_right l (Some own) r (group ∷ []) =
+    option_map (λ q. record { left = None; left_operand = l; own = own; right_operand = r; right = Some q }) (right_argument group)
 with_right _ _ _ _ = None
 
 -- a function's name

@@ -85,7 +85,7 @@ element_part (OfPart (Nothing place)) = None
 element_part (OfPart x) = Some x
 element_part (OfList q) = None
 
--- an element where no arrow follows, behind those that are joined to it
+-- an element where no arrow follows, after those that are joined to it
 abbrev pub plain_term : List Element → Element → Option Term
 plain_term [] (OfPart x) = Some (Operand x)
 plain_term [] (OfList q) = None
@@ -98,7 +98,7 @@ aimed_term [] (OfPart x) = Some (Operand x)
 aimed_term [] (OfList q) = Some (Target q)
 aimed_term (y ∷ ys) x = option_map (λ qs. Target (StrandPattern (patterns qs))) (each (element_pattern false) (y ∷ (ys ++ x ∷ [])))
 
--- what is being read: nothing; an element, behind those that are joined to it; what a joiner or a dot asks for
+-- what is being read: nothing; an element, after those that are joined to it; what a joiner or a dot asks for
 pub data Reading : Type 0 where
   Between : Reading
   At : List Element → Element → Reading
@@ -122,7 +122,7 @@ aimed_terms terms Between = Some terms
 aimed_terms terms (At joined x) = option_map (λ term. terms ++ term ∷ []) (aimed_term joined x)
 aimed_terms terms _ = None
 
--- one more name behind a part
+-- one more name after a part
 abbrev pub with_name : Part → Token → Part
 with_name (Field base names) t = Field base (names ++ t ∷ [])
 with_name x t = Field x (t ∷ [])

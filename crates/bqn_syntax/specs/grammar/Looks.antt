@@ -1,4 +1,4 @@
--- What the tokens behind a bracket say of it: whether a list stands before an arrow, and whether its piece is a header.
+-- What the tokens after a bracket say of it: whether a list stands before an arrow, and whether its piece is a header.
 use Rattle.std.specs.Prelude.{Bool, true, false, List, [], ◌∷◌}
 use Rattle.bqn_syntax.specs.declared.token.Token.{Token}
 use Rattle.bqn_syntax.specs.declared.sort.Sort.{Sort}
@@ -17,7 +17,7 @@ pub record Ahead : Type 0 where
 abbrev pub ahead : Bool → Bool → Bool → Ahead
 ahead arrow element colon = record { arrow = arrow; element = element; colon = colon }
 
--- what stands here, and behind each bracket that closes but does not open from here on, the innermost first
+-- what stands here, and after each bracket that closes but does not open from here on, the innermost first
 pub record Looks : Type 0 where
   pub here : Ahead
   pub outer : List Ahead
@@ -51,6 +51,6 @@ abbrev pub looks_of : List Token → Looks
 looks_of [] = looks (ahead false false false) []
 looks_of (t ∷ tokens) = look (sort_of t.kind) (looks_of tokens)
 
--- what stands behind the bracket that closes the one that these tokens stand behind
+-- what stands after the bracket that closes the one that these tokens stand after
 abbrev pub behind_group : List Token → Ahead
 behind_group tokens = first_of (looks_of tokens).outer

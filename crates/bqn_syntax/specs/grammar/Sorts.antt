@@ -13,27 +13,28 @@ use Rattle.bqn_syntax.specs.declared.sort.Sort.{Sort}
 use Rattle.bqn_syntax.specs.declared.sort.Sort.TheVariants.{Opens, Closes, Separates, Draws, Joins, Selects, Ends, Heads, Asks, Skips, Stands}
 use Rattle.bqn_syntax.specs.declared.sort.Tag.{Tag}
 use Rattle.bqn_syntax.specs.declared.sort.Tag.TheVariants.{Subject, Function, Mod1, Mod2, Nothing}
+use Rattle.bqn_syntax.specs.grammar.Punctuation as punctuation
 use Rattle.bqn_syntax.specs.grammar.Trees.{Expr, Value, Train, Modifier, Part, Leaf, Elements, Merge, Paren, Block, Field, Strand, Nothing as Absent, BlockTree, block}
 
 abbrev pub punct_sort : ℕ → Sort
 punct_sort c =
-    if c == 40 then Opens Round
-    else if c == 10216 then Opens Angle
-    else if c == 91 then Opens Square
-    else if c == 123 then Opens Curly
-    else if c == 41 then Closes Round
-    else if c == 10217 then Closes Angle
-    else if c == 93 then Closes Square
-    else if c == 125 then Closes Curly
-    else if c == 8592 then Draws Define
-    else if c == 8656 then Draws Export
-    else if c == 8617 then Draws Change
-    else if c == 8255 then Joins
-    else if c == 46 then Selects
-    else if c == 59 then Ends
-    else if c == 58 then Heads
-    else if c == 63 then Asks
-    else if c == 183 then Skips
+    if c == punctuation.open_round then Opens Round
+    else if c == punctuation.open_angle then Opens Angle
+    else if c == punctuation.open_square then Opens Square
+    else if c == punctuation.open_curly then Opens Curly
+    else if c == punctuation.close_round then Closes Round
+    else if c == punctuation.close_angle then Closes Angle
+    else if c == punctuation.close_square then Closes Square
+    else if c == punctuation.close_curly then Closes Curly
+    else if c == punctuation.define_arrow then Draws Define
+    else if c == punctuation.export_arrow then Draws Export
+    else if c == punctuation.change_arrow then Draws Change
+    else if c == punctuation.joiner then Joins
+    else if c == punctuation.dot then Selects
+    else if c == punctuation.semicolon then Ends
+    else if c == punctuation.colon then Heads
+    else if c == punctuation.question_mark then Asks
+    else if c == punctuation.middle_dot then Skips
     else Separates
 
 abbrev pub sort_of : Kind → Sort

@@ -6,6 +6,7 @@ use Rattle.bqn_syntax.specs.declared.token.Kind.TheVariants as kind
 use Rattle.bqn_syntax.specs.declared.tree.Arrow.{Arrow}
 use Rattle.bqn_syntax.specs.declared.tree.Arrow.TheVariants as arrow
 use Rattle.bqn_syntax.specs.declared.sort.Sort.TheVariants.{Separates}
+use Rattle.bqn_syntax.specs.grammar.Punctuation as punctuation
 use Rattle.bqn_syntax.specs.grammar.Sorts.{sort_of}
 use Rattle.bqn_syntax.specs.grammar.Classes.{is_predicate}
 use Rattle.bqn_syntax.specs.grammar.Trees.{Pattern, Name, Skip, Literal, ListPattern, StrandPattern, Patterns, no_patterns, and_patterns, Header, Expr, Value, Train, Modifier, Use, One, Two, Part, Leaf, Elements, Merge, Paren, Block, Field, Strand, Nothing, Step, Apply, Assign, Modify, Stmt, Eval, Predicate, Export, BlockTree, block, BodyTree, body, Derived, derived, MaybePart, none, some, Exprs, no_exprs, and_exprs, Uses, no_uses, and_uses, Parts, no_parts, and_parts, Steps, no_steps, and_steps, Stmts, no_stmts, and_stmts, Bodies, no_bodies, and_bodies, Deriveds, no_deriveds, and_deriveds}
@@ -27,22 +28,22 @@ pub data Fits : List Sign → List Token → Type 0 where
   no_more : {k : List Sign} {ts : List Token} → Fits k ts → Fits (Gap ∷ k) ts
 
 abbrev pub arrow_code : Arrow → ℕ
-arrow_code arrow.Define = 8592
-arrow_code arrow.Export = 8656
-arrow_code arrow.Change = 8617
+arrow_code arrow.Define = punctuation.define_arrow
+arrow_code arrow.Export = punctuation.export_arrow
+arrow_code arrow.Change = punctuation.change_arrow
 
 -- a mark whose place the tree keeps
 abbrev pub mark_at : ℕ → Place → Token
 mark_at c place = record { kind = kind.Punct c; place = place }
 
--- The signs of a tree, in front of others.
+-- The signs of a tree, before others.
 
 abbrev mutual
   pub pattern_signs : Pattern → List Sign → List Sign
   pattern_signs (Name t) k = Exact t ∷ k
-  pattern_signs (Skip place) k = Exact (mark_at 183 place) ∷ k
+  pattern_signs (Skip place) k = Exact (mark_at punctuation.middle_dot place) ∷ k
   pattern_signs (Literal t) k = Exact t ∷ k
-  pattern_signs (ListPattern qs) k = Mark 10216 ∷ Gap ∷ listed_signs qs (Gap ∷ Mark 10217 ∷ k)
+  pattern_signs (ListPattern qs) k = Mark punctuation.open_angle ∷ Gap ∷ listed_signs qs (Gap ∷ Mark punctuation.close_angle ∷ k)
   pattern_signs (StrandPattern qs) k = joined_signs qs k
 
   pub listed_signs : Patterns → List Sign → List Sign
@@ -59,7 +60,7 @@ abbrev mutual
 
   pub joined_more : Patterns → List Sign → List Sign
   joined_more no_patterns k = k
-  joined_more (and_patterns q qs) k = Mark 8255 ∷ pattern_signs q (joined_more qs k)
+  joined_more (and_patterns q qs) k = Mark punctuation.joiner ∷ pattern_signs q (joined_more qs k)
 
 abbrev pub token_signs : Option Token → List Sign → List Sign
 token_signs None k = k
@@ -78,7 +79,7 @@ target_signs (t ∷ ts) k = Exact t.0 ∷ Mark (arrow_code t.1) ∷ target_signs
 
 abbrev pub name_signs : List Token → List Sign → List Sign
 name_signs [] k = k
-name_signs (t ∷ ts) k = Mark 46 ∷ Exact t ∷ name_signs ts k
+name_signs (t ∷ ts) k = Mark punctuation.dot ∷ Exact t ∷ name_signs ts k
 
 abbrev mutual
   pub expr_signs : Expr → List Sign → List Sign
@@ -88,13 +89,13 @@ abbrev mutual
 
   pub part_signs : Part → List Sign → List Sign
   part_signs (Leaf t) k = Exact t ∷ k
-  part_signs (Elements es) k = Mark 10216 ∷ Gap ∷ exprs_signs es (Gap ∷ Mark 10217 ∷ k)
-  part_signs (Merge es) k = Mark 91 ∷ Gap ∷ exprs_signs es (Gap ∷ Mark 93 ∷ k)
-  part_signs (Paren e) k = Mark 40 ∷ expr_signs e (Mark 41 ∷ k)
+  part_signs (Elements es) k = Mark punctuation.open_angle ∷ Gap ∷ exprs_signs es (Gap ∷ Mark punctuation.close_angle ∷ k)
+  part_signs (Merge es) k = Mark punctuation.open_square ∷ Gap ∷ exprs_signs es (Gap ∷ Mark punctuation.close_square ∷ k)
+  part_signs (Paren e) k = Mark punctuation.open_round ∷ expr_signs e (Mark punctuation.close_round ∷ k)
   part_signs (Block b) k = block_signs b k
   part_signs (Field base names) k = part_signs base (name_signs names k)
   part_signs (Strand ps) k = parts_signs ps k
-  part_signs (Nothing place) k = Exact (mark_at 183 place) ∷ k
+  part_signs (Nothing place) k = Exact (mark_at punctuation.middle_dot place) ∷ k
 
   pub maybe_signs : MaybePart → List Sign → List Sign
   maybe_signs none k = k
@@ -108,7 +109,7 @@ abbrev mutual
   pub step_signs : Step → List Sign → List Sign
   step_signs (Apply f left) k = maybe_signs left (derived_signs f k)
   step_signs (Assign q a) k = pattern_signs q (Mark (arrow_code a) ∷ k)
-  step_signs (Modify t f) k = Exact t ∷ derived_signs f (Mark 8617 ∷ k)
+  step_signs (Modify t f) k = Exact t ∷ derived_signs f (Mark punctuation.change_arrow ∷ k)
 
   pub derived_signs : Derived → List Sign → List Sign
   derived_signs (derived x us) k = part_signs x (uses_signs us k)
@@ -139,14 +140,14 @@ abbrev mutual
 
   pub parts_more : Parts → List Sign → List Sign
   parts_more no_parts k = k
-  parts_more (and_parts x xs) k = Mark 8255 ∷ part_signs x (parts_more xs k)
+  parts_more (and_parts x xs) k = Mark punctuation.joiner ∷ part_signs x (parts_more xs k)
 
   pub stmt_signs : Stmt → List Sign → List Sign
   stmt_signs (Eval e) k = expr_signs e k
-  stmt_signs (Predicate e) k = expr_signs e (Mark 63 ∷ k)
-  stmt_signs (Export q) k = pattern_signs q (Mark 8656 ∷ k)
+  stmt_signs (Predicate e) k = expr_signs e (Mark punctuation.question_mark ∷ k)
+  stmt_signs (Export q) k = pattern_signs q (Mark punctuation.export_arrow ∷ k)
 
-  -- statements behind the start of a body, a header or a predicate, or behind another statement
+  -- statements after the start of a body, a header or a predicate, or after another statement
   pub stmts_signs : Bool → Stmts → List Sign → List Sign
   stmts_signs begins no_stmts k = k
   stmts_signs true (and_stmts s ss) k = Gap ∷ stmt_signs s (stmts_signs (is_predicate s) ss k)
@@ -154,7 +155,7 @@ abbrev mutual
 
   pub body_signs : BodyTree → List Sign → List Sign
   body_signs (body None ss) k = stmts_signs true ss (Gap ∷ k)
-  body_signs (body (Some h) ss) k = Gap ∷ header_signs h (Mark 58 ∷ stmts_signs true ss (Gap ∷ k))
+  body_signs (body (Some h) ss) k = Gap ∷ header_signs h (Mark punctuation.colon ∷ stmts_signs true ss (Gap ∷ k))
 
   pub bodies_signs : Bodies → List Sign → List Sign
   bodies_signs no_bodies k = k
@@ -162,10 +163,10 @@ abbrev mutual
 
   pub bodies_more : Bodies → List Sign → List Sign
   bodies_more no_bodies k = k
-  bodies_more (and_bodies b bs) k = Mark 59 ∷ body_signs b (bodies_more bs k)
+  bodies_more (and_bodies b bs) k = Mark punctuation.semicolon ∷ body_signs b (bodies_more bs k)
 
   pub block_signs : BlockTree → List Sign → List Sign
-  block_signs (block place c bs) k = Exact (mark_at 123 place) ∷ bodies_signs bs (Mark 125 ∷ k)
+  block_signs (block place c bs) k = Exact (mark_at punctuation.open_curly place) ∷ bodies_signs bs (Mark punctuation.close_curly ∷ k)
 
 -- these tokens spell a program of these statements
 abbrev pub Spells : Stmts → List Token → Type 0

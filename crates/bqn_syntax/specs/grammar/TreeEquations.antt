@@ -34,7 +34,8 @@ pattern-List all = search (rules, pattern_lemmas)
 pub pattern-Strand : (all : List CodePattern) → pattern_of (pattern.Strand all) ≡ StrandPattern (patterns (map pattern_of all))
 pattern-Strand all = search (rules, pattern_lemmas)
 
-pub expr-Value : (last : Option CodePart) (all : List CodeStep) → expr_of (expr.Value last all) ≡ Value (maybe_part (option_map part_of last)) (steps (map step_of all))
+pub expr-Value : (last : Option CodePart) (all : List CodeStep) → expr_of (expr.Value last all)
+    ≡ Value (maybe_part (option_map part_of last)) (steps (map step_of all))
 expr-Value None all = search (rules, the_lemmas)
 expr-Value (Some first) all = search (rules, the_lemmas)
 
@@ -81,7 +82,8 @@ part-Strand all = search (rules, the_lemmas)
 pub part-Nothing : (place : Place) → part_of (part.Nothing place) ≡ Nothing place
 part-Nothing place = search (rules, the_lemmas)
 
-pub step-Apply : (function : CodeDerived) (left : Option CodePart) → step_of (step.Apply function left) ≡ Apply (derived_of function) (maybe_part (option_map part_of left))
+pub step-Apply : (function : CodeDerived) (left : Option CodePart) → step_of (step.Apply function left)
+    ≡ Apply (derived_of function) (maybe_part (option_map part_of left))
 step-Apply function None = search (rules, the_lemmas)
 step-Apply function (Some before) = search (rules, the_lemmas)
 
@@ -115,4 +117,9 @@ body-out b = search (rules, the_lemmas)
 pub derived-out : (d : CodeDerived) → derived_of d ≡ derived (part_of (out-Derived d).first) (uses (map use_of (out-Derived d).uses))
 derived-out d = search (rules, the_lemmas)
 
-pub ruleset tree_equations = (pattern-Name, pattern-Skip, pattern-Literal, pattern-List, pattern-Strand, expr-Value, expr-Value-none, expr-Value-some, expr-Train, expr-Modifier, use-One, use-Two, part-Leaf, part-List, part-Merge, part-Paren, part-Block, part-Field, part-Strand, part-Nothing, step-Apply, step-Apply-none, step-Apply-some, step-Assign, step-Modify, stmt-Eval, stmt-Predicate, stmt-Export, block-out, body-out, derived-out)
+pub ruleset tree_equations = (
+  pattern-Name, pattern-Skip, pattern-Literal, pattern-List, pattern-Strand, expr-Value, expr-Value-none, expr-Value-some, expr-Train,
+  expr-Modifier, use-One, use-Two, part-Leaf, part-List, part-Merge, part-Paren, part-Block, part-Field, part-Strand, part-Nothing,
+  step-Apply, step-Apply-none, step-Apply-some, step-Assign, step-Modify, stmt-Eval, stmt-Predicate, stmt-Export, block-out, body-out,
+  derived-out
+)

@@ -77,7 +77,7 @@ mutual
   pub data BodyTree : Type 0 where
     body : Option Header → Stmts → BodyTree
 
-  -- a part and the modifiers behind it
+  -- a part and the modifiers after it
   pub data Derived : Type 0 where
     derived : Part → Uses → Derived
 
@@ -160,7 +160,13 @@ abbrev pub pattern_of : CodePattern → Pattern
 pattern_of = fold-Pattern Pattern at_pattern
 
 abbrev pub header_of : CodeHeader → Header
-header_of header = record { left = option_map pattern_of header.left; left_operand = header.left_operand; own = header.own; right_operand = header.right_operand; right = option_map pattern_of header.right }
+header_of header = record {
+  left = option_map pattern_of header.left;
+  left_operand = header.left_operand;
+  own = header.own;
+  right_operand = header.right_operand;
+  right = option_map pattern_of header.right;
+}
 
 abbrev at_expr : Expr-F Expr Use Part Step Stmt BlockTree BodyTree Derived → Expr
 at_expr (Expr-F.Value last all) = Value (maybe_part last) (steps all)

@@ -176,7 +176,7 @@ abbrev pub BeginsWithChange : Steps → Type 0
 BeginsWithChange (and_steps (Modify t f) ss) = Unit {0}
 BeginsWithChange _ = ⊥
 
--- a field stands behind one part that is a subject, and names of subjects
+-- a field stands after one part that is a subject, and names of subjects
 abbrev pub IsBase : Part → Type 0
 IsBase (Field x names) = ⊥
 IsBase (Strand ps) = ⊥

@@ -22,10 +22,13 @@ abbrev pub at_slot : List ℕ → Option ℕ → List (List ℕ × ℕ) → List
 at_slot name None found = found
 at_slot name (Some slot) found = found ++ (name, slot) ∷ []
 
--- the exports behind others, in the text order of the first token that exports each name
+-- the exports after others, in the text order of the first token that exports each name
 abbrev pub exports_of : List (List ℕ) → Mentions → List (List ℕ × ℕ) → List (List ℕ × ℕ)
 exports_of names no_mentions found = found
-exports_of names (and_mentions (Named how t) ms) found = if exports_it how then (if has (map (λ e. e.0) found) (name_of t) then exports_of names ms found else exports_of names ms (at_slot (name_of t) (place_of names (name_of t)) found)) else exports_of names ms found
+exports_of names (and_mentions (Named how t) ms) found =
+    if exports_it how then (if has (map (λ e. e.0) found) (name_of t) then exports_of names ms found
+        else exports_of names ms (at_slot (name_of t) (place_of names (name_of t)) found))
+    else exports_of names ms found
 exports_of names (and_mentions m ms) found = exports_of names ms found
 
 abbrev pub body_names : ℕ → Scope → Mentions → BodyNames
@@ -36,7 +39,7 @@ abbrev pub of_block : ℕ → Scopes → List BodyNames
 of_block parent no_scopes = []
 of_block parent (and_scopes ms order bodies) = body_names parent (block_scope ms order) ms ∷ of_block parent bodies
 
--- behind others, the bodies of the blocks in a body, which has this number, and of the blocks in the bodies of a block, the first
+-- after others, the bodies of the blocks in a body, which has this number, and of the blocks in the bodies of a block, the first
 -- of which has this number
 abbrev mutual
   pub inside : ℕ → Mentions → List BodyNames → List BodyNames
@@ -52,9 +55,11 @@ abbrev mutual
   inside_block number (and_scopes ms order bodies) found = inside_block (number + 1) bodies (inside number ms found)
 
 abbrev pub bodies_of : List (List ℕ) → Stmts → List BodyNames
-bodies_of outer ss = inside 0 (stmts_mentions ss no_mentions) (body_names (length outer) (top_scope outer (stmts_mentions ss no_mentions) (order_of None ss)) (stmts_mentions ss no_mentions) ∷ [])
+bodies_of outer ss =
+    inside 0 (stmts_mentions ss no_mentions) (body_names (length outer) (top_scope outer (stmts_mentions ss no_mentions) (order_of None ss))
+        (stmts_mentions ss no_mentions) ∷ [])
 
--- what resolving a tree behind the names of a session gives
+-- what resolving a tree after the names of a session gives
 pub record Resolution : Type 0 where
   pub bodies : List BodyNames
   pub uses : List Use

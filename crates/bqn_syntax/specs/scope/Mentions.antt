@@ -7,7 +7,7 @@ use Rattle.bqn_syntax.specs.declared.tree.Arrow.{Arrow}
 use Rattle.bqn_syntax.specs.grammar.Trees.{Pattern, Name, Skip, Literal, ListPattern, StrandPattern, Patterns, no_patterns, and_patterns, Header, Expr, Value, Train, Modifier, Use, One, Two, Part, Leaf, Elements, Merge, Paren, Block, Field, Strand, Nothing, Step, Apply, Assign, Modify, Stmt, Eval, Predicate, Export, BlockTree, block, BodyTree, body, Derived, derived, MaybePart, none, some, Exprs, no_exprs, and_exprs, Uses, no_uses, and_uses, Parts, no_parts, and_parts, Steps, no_steps, and_steps, Stmts, no_stmts, and_stmts, Bodies, no_bodies, and_bodies, Deriveds, no_deriveds, and_deriveds}
 use Rattle.bqn_syntax.specs.scope.Order.{How, Reads, Defines, Changes, Shows, by_arrow, order_of}
 
--- The mentions in text order, in front of others.
+-- The mentions in text order, before others.
 
 -- a name, a special name, a system name, or a block that stands there with its bodies; each body's own mentions, and the order
 -- in which they are evaluated
@@ -55,7 +55,9 @@ argument_mentions (Some q) k = pattern_mentions Defines q k
 -- a header defines its names
 abbrev pub header_mentions : Option Header → Mentions → Mentions
 header_mentions None k = k
-header_mentions (Some h) k = argument_mentions h.left (token_mentions Defines h.left_operand (leaf_mention Defines h.own.kind h.own (token_mentions Defines h.right_operand (argument_mentions h.right k))))
+header_mentions (Some h) k =
+    argument_mentions h.left (token_mentions Defines h.left_operand
+        (leaf_mention Defines h.own.kind h.own (token_mentions Defines h.right_operand (argument_mentions h.right k))))
 
 abbrev pub target_mentions : List (Token × Arrow) → Mentions → Mentions
 target_mentions [] k = k

@@ -17,7 +17,7 @@ by_arrow arrow.Define = Defines
 by_arrow arrow.Export = Exports
 by_arrow arrow.Change = Changes
 
--- The reads and stores in the order of evaluation, in front of others: right arguments before functions before left ones, right
+-- The reads and stores in the order of evaluation, before others: right arguments before functions before left ones, right
 -- operands before modifiers before left ones, the parts of a train from the right, values before their targets.
 
 abbrev pub leaf_order : How → Kind → Token → List (How × Token) → List (How × Token)
@@ -67,7 +67,7 @@ abbrev mutual
   steps_order no_steps k = k
   steps_order (and_steps s ss) k = step_order s (steps_order ss k)
 
-  -- `a F↩ x` reads `a` behind its function
+  -- `a F↩ x` reads `a` after its function
   pub step_order : Step → List (How × Token) → List (How × Token)
   step_order (Apply f left) k = derived_order f (maybe_order left k)
   step_order (Assign q a) k = pattern_order (by_arrow a) q k
@@ -116,7 +116,8 @@ token_order (Some t) k = leaf_order Defines t.kind t k
 
 abbrev pub header_order : Option Header → List (How × Token) → List (How × Token)
 header_order None k = k
-header_order (Some h) k = argument_order h.left (token_order h.left_operand (leaf_order Defines h.own.kind h.own (token_order h.right_operand (argument_order h.right k))))
+header_order (Some h) k =
+    argument_order h.left (token_order h.left_operand (leaf_order Defines h.own.kind h.own (token_order h.right_operand (argument_order h.right k))))
 
 abbrev pub order_of : Option Header → Stmts → List (How × Token)
 order_of h ss = header_order h (stmts_order ss [])

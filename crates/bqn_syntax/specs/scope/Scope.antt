@@ -45,7 +45,9 @@ defines _ = false
 -- in text order the first token that defines each name, but for names that are there before
 abbrev pub definitions : List (List ℕ) → Mentions → List Token
 definitions before no_mentions = []
-definitions before (and_mentions (Named how t) ms) = if defines how && not (has before (name_of t)) then t ∷ definitions (name_of t ∷ before) ms else definitions before ms
+definitions before (and_mentions (Named how t) ms) =
+    if defines how && not (has before (name_of t)) then t ∷ definitions (name_of t ∷ before) ms
+    else definitions before ms
 definitions before (and_mentions m ms) = definitions before ms
 
 -- the definitions that are still to come once this token has stored
@@ -56,7 +58,9 @@ without t (d ∷ ds) = if same_place t d then ds else d ∷ without t ds
 -- in the order of evaluation, the tokens that read or change a name whose definition is still to come
 abbrev pub too_early : List Token → List (How × Token) → List Token
 too_early waiting [] = []
-too_early waiting (e ∷ es) = if defines e.0 then too_early (without e.1 waiting) es else (if has (map name_of waiting) (name_of e.1) then e.1 ∷ too_early waiting es else too_early waiting es)
+too_early waiting (e ∷ es) =
+    if defines e.0 then too_early (without e.1 waiting) es
+    else (if has (map name_of waiting) (name_of e.1) then e.1 ∷ too_early waiting es else too_early waiting es)
 
 -- A body: the names known before it, which come first; its definitions; the tokens that use them too early; whether it stands in
 -- a block.
@@ -73,7 +77,7 @@ scope known defined order in_block = record { known = known; defined = defined; 
 abbrev pub block_scope : Mentions → List (How × Token) → Scope
 block_scope ms order = scope [] (definitions [] ms) order true
 
--- the top body of a source, or of a session's line behind these names
+-- the top body of a source, or of a session's line after these names
 abbrev pub top_scope : List (List ℕ) → Mentions → List (How × Token) → Scope
 top_scope outer ms order = scope outer (definitions outer ms) order false
 
@@ -143,7 +147,7 @@ abbrev pub and_on : Result (List Use) Refusal → (List Use → Result (List Use
 and_on (Ok uses) next = next uses
 and_on (Err r) next = Err r
 
--- the uses behind others, or the refusal of the first token that has one
+-- the uses after others, or the refusal of the first token that has one
 abbrev mutual
   pub uses_of : List Scope → Mentions → List Use → Result (List Use) Refusal
   uses_of scopes no_mentions uses = Ok uses
@@ -159,6 +163,6 @@ abbrev mutual
   uses_inside scopes no_scopes uses = Ok uses
   uses_inside scopes (and_scopes ms order bodies) uses = and_on (uses_of (block_scope ms order ∷ scopes) ms uses) (uses_inside scopes bodies)
 
--- the uses of a tree behind the names of a session, or its refusal
+-- the uses of a tree after the names of a session, or its refusal
 abbrev pub resolved : List (List ℕ) → Stmts → Result (List Use) Refusal
 resolved outer ss = uses_of (top_scope outer (stmts_mentions ss no_mentions) (order_of None ss) ∷ []) (stmts_mentions ss no_mentions) []

@@ -9,7 +9,7 @@ use Rattle.bqn_parse.proofs.close.whole_block.Goals as goal
 
 pub returns : goal.returns
 returns c = λ tokens place.
-    subst (λ (l : parsing.Level). Made (parsing.block_part l.opened (bodies l.done) (classes.class_of (classes.marks_in (bodies l.done)))) element_of c.block.result)
+    subst (λ (l : parsing.OpenBracket). Made (parsing.block_part l.opened (bodies l.done) (classes.class_of (classes.marks_in (bodies l.done)))) element_of c.block.result)
     (c.in_ok-end_body.ensures tokens)
     (subst (λ (bs : List BodyTree). Made (parsing.block_part c.end_body.new.self.opened (bodies (map body_of bs)) (classes.class_of (classes.marks_in (bodies (map body_of bs))))) element_of c.block.result)
     c.in_ok-done.ensures.taken c.block.ensures)

@@ -4,13 +4,13 @@ use Rattle.bqn_syntax.specs.grammar.Expressions as expressions
 use Rattle.bqn_syntax.specs.grammar.Parsing as parsing
 use Rattle.bqn_syntax.specs.grammar.Trees.{expr_of}
 use Rattle.bqn_parse.specs.Views.{items_of}
-use Rattle.bqn_parse.specs.Walking.{level_shown}
+use Rattle.bqn_parse.specs.Walking.{bracket_shown}
 use Rattle.bqn_parse.proofs.Walking.{well-made}
 use Rattle.bqn_parse.proofs.judge.judge_expression.Goals as goal
 
 pub returns-in-Some : goal.returns-in-Some
 returns-in-Some c =
-    let level = c.args.level.now in
+    let inner = c.args.inner.now in
     let tokens = c.args.tokens.now in
     let e = ap (option_map expr_of) (sym c.in-Some.is) ∙ c.in_ok-piece_expression.ensures in
-    well-made c.args.place parsing.and_expression (expressions.piece_expression (items_of level.items.items)) (expr_of c.in-Some.e) (level_shown tokens level) (level_shown tokens c.and_expression.new.self) c.and_expression.result e (c.and_expression.ensures tokens)
+    well-made c.args.place parsing.and_expression (expressions.piece_expression (items_of inner.items.items)) (expr_of c.in-Some.e) (bracket_shown tokens inner) (bracket_shown tokens c.and_expression.new.self) c.and_expression.result e (c.and_expression.ensures tokens)

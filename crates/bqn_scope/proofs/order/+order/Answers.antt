@@ -6,7 +6,7 @@ use Rattle.std.proofs.lemmas.Iterator.Adapters.{YieldsList-from_rev_slice}
 use Rattle.std.proofs.lemmas.Iterator.Consumers.{YieldsList-end}
 use Rattle.bqn_scope.proofs.Backward.{all-yielded}
 use Rattle.bqn_syntax.specs.scope.Order.{Changes, leaf_order, derived_order}
-use Rattle.bqn_scope.proofs.Unstarted.{on_ok, unstarted-Modify, unstarted-Apply, unstarted-Assign}
+use Rattle.bqn_scope.proofs.Unstarted.{on-ok, unstarted-Modify, unstarted-Apply, unstarted-Assign}
 use Rattle.bqn_scope.proofs.order.+order.Goals as goal
 
 pub exprs-returns : goal.exprs-returns
@@ -19,10 +19,10 @@ pub steps_of-returns : goal.steps_of-returns
 steps_of-returns t c = c.loop-s.invariant ∙ ap (λ xs. steps_order (steps xs) (events_backward c.args.events.now.items)) (all-yielded step_of c.args.all.now c.loop-s.yielded (YieldsList-end (YieldsList-from_rev_slice c.args.all.now cc) c.loop-s.yielded _ c.loop-s.yielded_by _ _ c.in-None.is c.next.ensures.steps).0)
 
 pub unstarted-returns-in_ok-derived-in-Modify : goal.unstarted-returns-in_ok-derived-in-Modify
-unstarted-returns-in_ok-derived-in-Modify t c = on_ok c.leaf.result _ _ _ c.leaf.ensures (ap (leaf_order Changes c.in-Modify.target.kind c.in-Modify.target) (c.in_ok-derived-in-Modify.ensures ∙ ap (derived_order (derived_of c.in-Modify.function)) c.in_ok-steps_of-in-Modify.ensures) ∙ unstarted-Modify c.args.all.now c.in-Some.rest.now c.in-Some.first.now c.in-Modify.target c.in-Modify.function (events_backward c.args.events.now.items) c.in-Some.ensures.cases.0 c.in-Modify.is)
+unstarted-returns-in_ok-derived-in-Modify t c = on-ok c.leaf.result _ _ _ c.leaf.ensures (ap (leaf_order Changes c.in-Modify.target.kind c.in-Modify.target) (c.in_ok-derived-in-Modify.ensures ∙ ap (derived_order (derived_of c.in-Modify.function)) c.in_ok-steps_of-in-Modify.ensures) ∙ unstarted-Modify c.args.all.now c.in-Some.rest.now c.in-Some.first.now c.in-Modify.target c.in-Modify.function (events_backward c.args.events.now.items) c.in-Some.ensures.cases.0 c.in-Modify.is)
 
 pub unstarted-returns-in-Apply : goal.unstarted-returns-in-Apply
-unstarted-returns-in-Apply t c = on_ok c.steps_of-in-Apply.result _ _ _ c.steps_of-in-Apply.ensures (unstarted-Apply c.args.all.now c.in-Some.rest.now c.in-Some.first.now c.in-Apply.function c.in-Apply.left (events_backward c.args.events.now.items) c.in-Some.ensures.cases.0 c.in-Apply.is)
+unstarted-returns-in-Apply t c = on-ok c.steps_of-in-Apply.result _ _ _ c.steps_of-in-Apply.ensures (unstarted-Apply c.args.all.now c.in-Some.rest.now c.in-Some.first.now c.in-Apply.function c.in-Apply.left (events_backward c.args.events.now.items) c.in-Some.ensures.cases.0 c.in-Apply.is)
 
 pub unstarted-returns-in-Assign : goal.unstarted-returns-in-Assign
-unstarted-returns-in-Assign t c = on_ok c.steps_of-in-Assign.result _ _ _ c.steps_of-in-Assign.ensures (unstarted-Assign c.args.all.now c.in-Some.rest.now c.in-Some.first.now c.in-Assign.target c.in-Assign.arrow (events_backward c.args.events.now.items) c.in-Some.ensures.cases.0 c.in-Assign.is)
+unstarted-returns-in-Assign t c = on-ok c.steps_of-in-Assign.result _ _ _ c.steps_of-in-Assign.ensures (unstarted-Assign c.args.all.now c.in-Some.rest.now c.in-Some.first.now c.in-Assign.target c.in-Assign.arrow (events_backward c.args.events.now.items) c.in-Some.ensures.cases.0 c.in-Assign.is)

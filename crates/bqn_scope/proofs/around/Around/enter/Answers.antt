@@ -1,7 +1,7 @@
 use Rattle.std.proofs.Common.{◌≡◌, [], ◌∙◌, ap, sym, arith}
 use Rattle.bqn_syntax.specs.scope.Scope.{Scope, block_scope}
 use Rattle.bqn_scope.specs.Bindings.{bindings_shown, bound_by, hidden_by, hidden_shown}
-use Rattle.bqn_scope.specs.Levels.{own-out}
+use Rattle.bqn_scope.specs.Equations.{own-out}
 use Rattle.bqn_scope.specs.Scopes.{known_in}
 use Rattle.bqn_scope.specs.Shown.{events_shown, mentions_shown}
 use Rattle.bqn_scope.specs.Tokens.{names_of_tokens, tokens_shown}
