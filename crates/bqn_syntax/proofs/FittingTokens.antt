@@ -147,7 +147,7 @@ behind-stands zero place (c ∷ cs) short = go (longest Start (c ∷ cs)) (λ co
 all_stand : (n : ℕ) (r : Result (List Token) Refusal) (tokens : List Token) → r ≡ Ok tokens → AllStand n r → AllStand n (Ok tokens)
 all_stand n r tokens e h = subst (AllStand n) e h
 
-text_fits : (text : List ℕ) (tokens : List Token) → length text ≤ 2 ^ 20 → tokens_of_text text ≡ Ok tokens → TokensFit tokens
+pub text_fits : (text : List ℕ) (tokens : List Token) → length text ≤ 2 ^ 20 → tokens_of_text text ≡ Ok tokens → TokensFit tokens
 text_fits text tokens short e =
     let h = all_stand (length text) (tokens_of_text text) tokens e (behind-stands 0 first_place text (omega arith)) in
     let le = h.0 in
