@@ -4,10 +4,11 @@ use Rattle.bqn_base.specs.Literal.{Spelled}
 use Rattle.bqn_literal.specs.declared.spelling.Spelling.{Spelling}
 use Rattle.bqn_literal.specs.Shown.{figures}
 
-abbrev pub shown : Spelling → Spelled
-shown s = record { negative = s.negative; whole = figures s.whole.now; fraction = figures s.fraction.now; down = s.down; power = figures s.power.now }
+-- what the parts of a word spell, without their underscores
+abbrev pub spelled_by : Spelling → Spelled
+spelled_by s = record { negative = s.negative; whole = figures s.whole.now; fraction = figures s.fraction.now; down = s.down; power = figures s.power.now }
 
 -- the spelling that is found, if one is
 abbrev pub found : Option Spelling → Option Spelled
 found None = None
-found (Some s) = Some (shown s)
+found (Some s) = Some (spelled_by s)

@@ -5,7 +5,7 @@ ghost use Rattle.std.specs.List.{list_any};
 ghost use Rattle.std.specs.Option.{option_and_then};
 ghost use Rattle.bqn_base.specs.Literal.{in_64_bits, is_past_numbers, literal, magnitude, with_sign};
 ghost use Rattle.bqn_literal.specs.Results.{number_of};
-ghost use Rattle.bqn_literal.specs.Spellings.{shown};
+ghost use Rattle.bqn_literal.specs.Spellings.{spelled_by};
 ghost use Rattle.bqn_literal.specs.Values.{small};
 
 use crate::error::NumberError;
@@ -14,7 +14,7 @@ use crate::spelling::{Spelling, spell};
 
 /// The size of a number that is spelled so, if it is whole and has at most 64 bits.
 fn size_of(spelling: Spelling) -> Option<u64>
-    ensures { result ≡ option_and_then small (magnitude (shown spelling.entry)) }
+    ensures { result ≡ option_and_then small (magnitude (spelled_by spelling.entry)) }
 {
     let whole = Significand::new().with_digits(spelling.whole)?;
     let read = whole.with_digits(spelling.fraction)?;

@@ -1,5 +1,8 @@
 pub mod Longest
 pub mod Cutting
+pub mod WordNames
+pub mod Lengths
+pub mod FittingTokens
 mod Samples
 mod TokenSamples
 mod GrammarSamples

@@ -4,4 +4,5 @@ pub mod Table
 pub mod Cut
 pub mod Words
 pub mod Tokens
+pub mod Fitting
 pub mod Laws

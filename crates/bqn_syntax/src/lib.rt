@@ -9,7 +9,7 @@ mod sort;
 mod token;
 mod tree;
 
-pub use laws::cut_is_unique;
+pub use laws::{cut_is_unique, tokens_of_sources_fit};
 pub use open::Open;
 pub use pattern::{Header, Pattern};
 pub use progress::Progress;

@@ -21,7 +21,7 @@ use Rattle.bqn_token.specs.Alones.{mark_of, single_of, shown_alone}
 use Rattle.bqn_token.specs.Singles.{primitives}
 use Rattle.bqn_token.specs.Tokenizing.{placed}
 use Rattle.bqn_token.proofs.Meanings.{single_if}
-use Rattle.bqn_token.proofs.Names.{both-left, both-right}
+use Rattle.bqn_syntax.proofs.WordNames.{both-left, both-right}
 use Rattle.bqn_token.proofs.Quotes.{piece_after, is_piece_from-cons}
 use Rattle.bqn_token.proofs.Singles.{is_some-position}
 

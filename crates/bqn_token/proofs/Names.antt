@@ -14,6 +14,7 @@ use Rattle.bqn_base.specs.Characters.{is_upper, is_letter}
 use Rattle.bqn_syntax.specs.declared.token.Special.TheVariants.{Modifier}
 use Rattle.bqn_syntax.specs.declared.token.Kind.{Kind}
 use Rattle.bqn_syntax.specs.declared.token.Kind.TheVariants as kind
+use Rattle.bqn_syntax.proofs.WordNames.{both-left, both-right, plain-name_of}
 use Rattle.bqn_syntax.specs.text.Words.{begins_with_letter, is_modifier_word, is_name_character, is_name_word, lower_case, name_of, role_of, word_kind}
 
 abbrev letter_if : Bool → ℕ → List ℕ → Bool
@@ -47,14 +48,6 @@ plain-no_under c is = grind (arith, nat_tests)
 plain-no_capital : (c : ℕ) → is_plain c ≡ true → is_upper c ≡ false
 plain-no_capital c is = grind (arith, nat_tests)
 
-pub both-left : (a b : Bool) → (a && b) ≡ true → a ≡ true
-both-left true b e = refl
-both-left false b e = e
-
-pub both-right : (a b : Bool) → (a && b) ≡ true → b ≡ true
-both-right true b e = e
-both-right false b e = cc
-
 pub name_of-plain : (word : List ℕ) → list_all is_plain word ≡ true → name_of word ≡ word
 name_of-plain [] is = refl
 name_of-plain (c ∷ cs) is =
@@ -62,22 +55,6 @@ name_of-plain (c ∷ cs) is =
     ap (λ (b : Bool). map lower_case (cond (not b) (c ∷ filter (λ d. not (d == 95)) cs) (filter (λ d. not (d == 95)) cs))) (plain-no_under c plain)
     ∙ ap (λ (b : Bool). (if b then c + 32 else c) ∷ name_of cs) (plain-no_capital c plain)
     ∙ ap (λ (ds : List ℕ). c ∷ ds) (name_of-plain cs (both-right (is_plain c) (list_all is_plain cs) is))
-
-lower_case-plain : (c : ℕ) → is_name_character c ≡ true → (c == 95) ≡ false → is_plain (lower_case c) ≡ true
-lower_case-plain c is other = at (is_upper c) refl
-  where
-    at : (upper : Bool) → is_upper c ≡ upper → is_plain (if upper then c + 32 else c) ≡ true
-    at true e = grind (arith, nat_tests)
-    at false e = grind (arith, nat_tests)
-
-pub plain-name_of : (word : List ℕ) → list_all is_name_character word ≡ true → list_all is_plain (name_of word) ≡ true
-plain-name_of [] is = refl
-plain-name_of (c ∷ cs) is = at (c == 95) refl (plain-name_of cs (both-right (is_name_character c) (list_all is_name_character cs) is))
-  where
-    at : (under : Bool) → (c == 95) ≡ under → list_all is_plain (name_of cs) ≡ true
-        → list_all is_plain (map lower_case (cond (not under) (c ∷ filter (λ d. not (d == 95)) cs) (filter (λ d. not (d == 95)) cs))) ≡ true
-    at true e rest = rest
-    at false e rest = ap (λ (b : Bool). b && list_all is_plain (name_of cs)) (lower_case-plain c (both-left (is_name_character c) (list_all is_name_character cs) is) e) ∙ rest
 
 pub ruleset name_laws = (name_of-plain, plain-name_of)
 

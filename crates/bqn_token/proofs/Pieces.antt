@@ -19,12 +19,12 @@ use Rattle.bqn_token.specs.Tokenizing.{Gives, Tokenizes, placed, token_at}
 use Rattle.bqn_token.specs.Alones.{single_of, shown_alone}
 use Rattle.bqn_base.specs.Names.{is_name_character as is_plain}
 use Rattle.bqn_token.specs.Runs.{ends_word, is_short_word}
-use Rattle.bqn_token.proofs.Names.{both-left, both-right}
+use Rattle.bqn_syntax.proofs.WordNames.{both-left, both-right}
 use Rattle.bqn_token.proofs.Runs.{short-longest}
 use Rattle.bqn_token.specs.declared.single.Alone.{Alone}
 use Rattle.bqn_token.proofs.Alones.{single-done, kind-single}
 use Rattle.bqn_token.proofs.Scan.{after_state, longest-cons}
-use Rattle.bqn_token.proofs.Few.{tokens-few}
+use Rattle.bqn_token.proofs.Few.{given-few, given-fit, given-begin}
 
 -- tokens in front of those that follow, or the refusal of what follows
 abbrev pub onto : List Token → Result (List Token) Refusal → Result (List Token) Refusal
@@ -220,4 +220,4 @@ tokens-err bytes r e = ap (λ (r : Result (List ℕ) Refusal). elim r as (λ _. 
 
 pub ruleset cut_laws = (onto-nil, longest-piece, tokens-stuck, tokens-end)
 
-pub ruleset source_laws = (tokens-ok, tokens-err, tokens-few)
+pub ruleset source_laws = (tokens-ok, tokens-err, given-few, given-fit, given-begin)

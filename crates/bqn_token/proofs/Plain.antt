@@ -14,7 +14,8 @@ use Rattle.bqn_syntax.specs.text.Tokens.{Trouble, kind_of, name_kind}
 use Rattle.bqn_syntax.specs.text.Words.{begins_with_letter, is_name_character, is_name_word, role_of, word_kind}
 use Rattle.bqn_token.specs.Runs.{is_plain_name}
 use Rattle.bqn_token.proofs.Alones.{other}
-use Rattle.bqn_token.proofs.Names.{both-left, both-right, name_of-plain, kind-name}
+use Rattle.bqn_syntax.proofs.WordNames.{both-left, both-right}
+use Rattle.bqn_token.proofs.Names.{name_of-plain, kind-name}
 
 pub plain-none : (word : List ℕ) → length word ≡ 0 → is_plain_name word ≡ false
 plain-none [] e = refl

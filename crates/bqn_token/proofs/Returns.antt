@@ -10,14 +10,6 @@ use Rattle.bqn_token.specs.Tokenizing.{without_last_return, with_character}
 abbrev kept_if : Bool → ℕ → List ℕ → List ℕ
 kept_if dropped c rest = elim dropped [ true ↦ rest | false ↦ c ∷ rest ]
 
-pub length-without_returns : (cs : List ℕ) → length (without_returns cs) ≤ length cs
-length-without_returns [] = omega arith
-length-without_returns (c ∷ cs) = at (is_dropped c cs) (length-without_returns cs)
-  where
-    at : (dropped : Bool) → length (without_returns cs) ≤ length cs → length (kept_if dropped c (without_returns cs)) ≤ length (c ∷ cs)
-    at true le = omega arith
-    at false le = omega arith
-
 some_kept : (c : ℕ) (cs : List ℕ) → 0 < length (without_returns (c ∷ cs))
 some_kept c [] = omega arith
 some_kept c (d ∷ ds) = at (is_dropped c (d ∷ ds)) (some_kept d ds)

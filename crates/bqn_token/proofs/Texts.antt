@@ -4,11 +4,11 @@ use Rattle.std.specs.Prelude.{nat_lt}
 use Rattle.std.specs.Str.{chars, is_utf8, IsUtf8}
 use Rattle.std.specs.Str.Lossy.{utf8_valid_len}
 use Rattle.std.proofs.lemmas.Bool.Decides.{nat_tests}
-use Rattle.std.proofs.lemmas.Str.{is_utf8-from_IsUtf8, IsUtf8-from_is_utf8, encodes-chars, length-le-encodes, utf8_valid_len_le}
+use Rattle.std.proofs.lemmas.Str.{is_utf8-from_IsUtf8, IsUtf8-from_is_utf8, utf8_valid_len_le}
 use Rattle.bqn_base.specs.declared.refusal.Refusal.{Refusal}
 use Rattle.bqn_base.specs.declared.refusal.Refusal.TheVariants.{TooLong, NotUtf8}
 use Rattle.bqn_syntax.specs.text.Text.{text_of, without_returns}
-use Rattle.bqn_token.proofs.Returns.{length-without_returns}
+use Rattle.bqn_syntax.proofs.Lengths.{length-text}
 
 abbrev text_if : Bool → Bool → List ℕ → Result (List ℕ) Refusal
 text_if long valid bytes = elim long [
@@ -35,12 +35,5 @@ not_valid false bytes n e = e
 
 pub text_of-bytes : (bytes : List ℕ) → length bytes ≤ 2 ^ 20 → ¬ (IsUtf8 bytes) → text_of bytes ≡ Err (NotUtf8 (utf8_valid_len bytes))
 text_of-bytes bytes le n = text_of-short bytes false le (not_valid (is_utf8 bytes) bytes n refl)
-
-pub length-text : (bytes : List ℕ) → length bytes ≤ 2 ^ 20 → IsUtf8 bytes → length (without_returns (chars bytes)) ≤ 2 ^ 20
-length-text bytes le u =
-    let same = ap (λ (b : List ℕ). length b) (encodes-chars bytes u) in
-    let kept = length-without_returns (chars bytes) in
-    let most = length-le-encodes (chars bytes) in
-    omega arith
 
 pub ruleset text_laws = (text_of-long, text_of-utf8, text_of-bytes, length-text, utf8_valid_len_le)

@@ -4,6 +4,7 @@ use Rattle.std.specs.Option.{option_map}
 use Rattle.bqn_syntax.specs.declared.token.Kind.{Kind}
 use Rattle.bqn_syntax.specs.declared.token.Kind.TheVariants as kind
 use Rattle.bqn_syntax.specs.text.Table.{is_one_of, blanks, punctuation}
+use Rattle.bqn_syntax.specs.text.Tokens.{at_sign}
 use Rattle.bqn_syntax.specs.text.Words.{special_of, role_of}
 use Rattle.bqn_token.specs.declared.single.Alone.{Alone}
 use Rattle.bqn_token.specs.declared.single.Alone.TheVariants as alone
@@ -13,7 +14,7 @@ use Rattle.bqn_token.specs.Singles.{primitives}
 abbrev pub mark_of : ℕ → Option Alone
 mark_of c =
     cond (is_one_of blanks c) (Some alone.Blank)
-    (cond (c == 64) (Some alone.Zero)
+    (cond (c == at_sign) (Some alone.Zero)
     (elim (special_of c) [
       | Some name ↦ Some (alone.Special name (role_of (c ∷ [])))
       | None ↦ cond (is_one_of punctuation c) (Some alone.Punct) None

@@ -1,6 +1,7 @@
 -- What tokenizing gives, beside the definition of the tokens.
 use Rattle.std.specs.Prelude.{◌≡◌, ℕ, ◌==◌, if◌then◌else◌, List, [], ◌∷◌, ◌++◌, Option, Some, None, Vec, Result, Ok, Err}
 use Rattle.std.specs.declared.alloc.Global.{Global}
+use Rattle.bqn_base.specs.Characters.{newline, carriage_return}
 use Rattle.bqn_base.specs.declared.place.Place.{Place}
 use Rattle.bqn_base.specs.declared.refusal.Refusal.{Refusal}
 use Rattle.bqn_syntax.specs.declared.token.Kind.{Kind}
@@ -35,12 +36,12 @@ placed place (Err trouble) = Err (refused_at trouble place)
 -- a list without a carriage return that ends it
 abbrev pub without_last_return : List ℕ → List ℕ
 without_last_return [] = []
-without_last_return (c ∷ []) = if c == 13 then [] else c ∷ []
+without_last_return (c ∷ []) = if c == carriage_return then [] else c ∷ []
 without_last_return (c ∷ d ∷ cs) = c ∷ without_last_return (d ∷ cs)
 
 -- what is kept of a text after one more character
 abbrev pub with_character : List ℕ → ℕ → List ℕ
-with_character kept c = (if c == 10 then without_last_return kept else kept) ++ c ∷ []
+with_character kept c = (if c == newline then without_last_return kept else kept) ++ c ∷ []
 
 -- the token of a piece at a place, if it has one
 abbrev pub token_at : Option Kind → Place → List Token

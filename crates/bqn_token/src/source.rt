@@ -1,4 +1,6 @@
 ghost use Rattle.std.specs.Prelude.{◌≤◌, ◌^◌, IfOk, length};
+ghost use Rattle.std.specs.List.{All};
+ghost use Rattle.bqn_syntax.specs.text.Fitting.{TokenBegins, TokenFits};
 ghost use Rattle.bqn_syntax.specs.text.Tokens.{tokens_of_source};
 ghost use Rattle.bqn_token.specs.Tokenizing.{Tokenizes};
 
@@ -17,6 +19,8 @@ use std::alloc::Global;
 pub fn tokens(alloc: Global, bytes: &[u8]) -> Result<Vec<Token>, TokenError>
     ensures exact { Tokenizes (tokens_of_source bytes.now) result }
     ensures few { IfOk result (λ tokens. length tokens.items ≤ 2 ^ 20) }
+    ensures fits { IfOk result (λ tokens. All TokenFits tokens.items) }
+    ensures letters { IfOk result (λ tokens. All TokenBegins tokens.items) }
 {
     let text = text(alloc, bytes)?;
     tokens_in(alloc, text.as_slice())

@@ -1,6 +1,7 @@
 -- The table of tokens, as the states that a piece goes through character by character: BQN's page on tokens.
 use Rattle.std.specs.Prelude.{ℕ, ◌==◌, Bool, true, false, ◌||◌, if◌then◌else◌, List, [], ◌∷◌, ◌++◌, Option, Some, None}
 use Rattle.std.specs.List.{list_any}
+use Rattle.bqn_base.specs.Characters.{tab, newline, space, double_quote, number_sign, single_quote, dot, underscore, macron, pi, bullet, infinity, own_modifier}
 pub use Rattle.bqn_base.specs.Characters.{is_digit, is_lower, is_letter}
 pub use Rattle.bqn_base.specs.Signs.{primitive_functions, primitive_modifiers}
 use lib.Chars.{codes}
@@ -12,11 +13,11 @@ abbrev pub special_names : List ℕ
 special_names = codes "𝕨𝕩𝕤𝕗𝕘𝕎𝕏𝕊𝔽𝔾"
 
 abbrev pub punctuation : List ℕ
-punctuation = 10 ∷ codes "←⇐↩(){}⟨⟩[]‿·⋄,.;:?"
+punctuation = newline ∷ codes "←⇐↩(){}⟨⟩[]‿·⋄,.;:?"
 
 -- the space and the tab
 abbrev pub blanks : List ℕ
-blanks = 32 ∷ 9 ∷ []
+blanks = space ∷ tab ∷ []
 
 -- what is a piece by itself; `@` is the character with code 0
 abbrev pub singles : List ℕ
@@ -27,11 +28,11 @@ is_one_of cs c = list_any (λ d. d == c) cs
 
 -- a letter, the underscore or `𝕣`
 abbrev pub is_name_start : ℕ → Bool
-is_name_start c = is_letter c || (c == 95) || (c == 120163)
+is_name_start c = is_letter c || (c == underscore) || (c == own_modifier)
 
 -- those, the digits, `¯`, `∞` and `π`; a dot belongs to a word only between two digits
 abbrev pub is_word : ℕ → Bool
-is_word c = is_name_start c || is_digit c || (c == 175) || (c == 8734) || (c == 960)
+is_word c = is_name_start c || is_digit c || (c == macron) || (c == infinity) || (c == pi)
 
 abbrev pub within_word : ℕ → Option Progress
 within_word c = if is_digit c then Some Digit else if is_word c then Some Word else None
@@ -40,10 +41,10 @@ abbrev pub first_state : ℕ → Option Progress
 first_state c =
     if is_digit c then Some Digit
     else if is_word c then Some Word
-    else if c == 35 then Some Comment
-    else if c == 8226 then Some Bullet
-    else if c == 39 then Some Quote
-    else if c == 34 then Some Inside
+    else if c == number_sign then Some Comment
+    else if c == bullet then Some Bullet
+    else if c == single_quote then Some Quote
+    else if c == double_quote then Some Inside
     else if is_one_of singles c then Some Done
     else None
 
@@ -52,18 +53,18 @@ abbrev pub next : Progress → ℕ → Option Progress
 next Start c = first_state c
 next Done c = None
 -- a comment runs up to the next newline
-next Comment c = if c == 10 then None else Some Comment
+next Comment c = if c == newline then None else Some Comment
 next Word c = within_word c
-next Digit c = if c == 46 then Some Dot else within_word c
+next Digit c = if c == dot then Some Dot else within_word c
 next Dot c = if is_digit c then Some Digit else None
 -- a system word is `•` and a name word
 next Bullet c = if is_name_start c then Some Word else None
 -- any one code point stands between single quotes
 next Quote c = Some Quoted
-next Quoted c = if c == 39 then Some Done else None
+next Quoted c = if c == single_quote then Some Done else None
 -- two adjacent double quotes stand for one
-next Inside c = if c == 34 then Some Closed else Some Inside
-next Closed c = if c == 34 then Some Inside else None
+next Inside c = if c == double_quote then Some Closed else Some Inside
+next Closed c = if c == double_quote then Some Inside else None
 
 -- whether a piece may end here
 abbrev pub is_final : Progress → Bool

@@ -2,13 +2,14 @@
 use Rattle.std.specs.Prelude.{ℕ, ◌^◌, nat_lt, ◌==◌, Bool, true, false, ◌&&◌, List, [], ◌∷◌, length, Result, Ok, Err}
 use Rattle.std.specs.Str.{is_utf8, chars}
 use Rattle.std.specs.Str.Lossy.{utf8_valid_len}
+use Rattle.bqn_base.specs.Characters.{newline, carriage_return}
 use Rattle.bqn_base.specs.declared.refusal.Refusal.{Refusal}
 use Rattle.bqn_base.specs.declared.refusal.Refusal.TheVariants.{TooLong, NotUtf8}
 
 -- a carriage return directly before a line feed
 abbrev pub is_dropped : ℕ → List ℕ → Bool
 is_dropped c [] = false
-is_dropped c (d ∷ ds) = (c == 13) && (d == 10)
+is_dropped c (d ∷ ds) = (c == carriage_return) && (d == newline)
 
 abbrev pub without_returns : List ℕ → List ℕ
 without_returns [] = []

@@ -4,6 +4,7 @@ use Rattle.std.specs.Option.{option_map}
 use Rattle.bqn_base.specs.declared.place.Place.{Place}
 use Rattle.bqn_base.specs.declared.refusal.Refusal.{Refusal}
 use Rattle.bqn_base.specs.declared.refusal.Refusal.TheVariants as refusal
+use Rattle.bqn_base.specs.Characters.{newline, double_quote, number_sign, single_quote, bullet}
 use Rattle.bqn_base.specs.Literal.{Literal, Number, Bad, Range, literal, unquoted}
 use Rattle.bqn_syntax.specs.declared.progress.Progress.TheVariants.{Start}
 use Rattle.bqn_syntax.specs.declared.token.Kind.{Kind}
@@ -27,7 +28,7 @@ refused_at BadName place = refusal.BadName place
 
 -- why no piece starts with this character
 abbrev pub no_piece : ℕ → Trouble
-no_piece c = if (c == 39) || (c == 34) then OpenQuote else if c == 8226 then BadName else BadChar
+no_piece c = if (c == single_quote) || (c == double_quote) then OpenQuote else if c == bullet then BadName else BadChar
 
 -- a list without its last element
 abbrev pub all_but_last : List ℕ → List ℕ
@@ -48,10 +49,14 @@ name_kind (Some k) = Ok (Some k)
 abbrev pub primitive_kind : ℕ → Option Kind
 primitive_kind c = option_map (λ code. kind.Given code) (position (λ d. d == c) (primitive_functions ++ primitive_modifiers))
 
+-- `@`, which is the character with code 0
+abbrev pub at_sign : ℕ
+at_sign = 64
+
 -- what a character that is a piece by itself stands for
 abbrev pub single_kind : ℕ → Kind
 single_kind c =
-    if c == 64 then kind.Char 0
+    if c == at_sign then kind.Char 0
     else elim (special_of c) [
       | Some name ↦ kind.Special name (role_of (c ∷ []))
       | None ↦ elim (primitive_kind c) [ Some k ↦ k | None ↦ kind.Punct c ]
@@ -66,10 +71,10 @@ quoted (c ∷ cs) = Ok (Some (kind.Char c))
 abbrev pub kind_of : List ℕ → Result (Option Kind) Trouble
 kind_of [] = Ok None
 kind_of (c ∷ cs) =
-    if is_one_of blanks c || (c == 35) then Ok None
-    else if c == 39 then quoted cs
-    else if c == 34 then Ok (Some (kind.Text (unquoted (all_but_last cs))))
-    else if c == 8226 then name_kind (system_kind cs)
+    if is_one_of blanks c || (c == number_sign) then Ok None
+    else if c == single_quote then quoted cs
+    else if c == double_quote then Ok (Some (kind.Text (unquoted (all_but_last cs))))
+    else if c == bullet then name_kind (system_kind cs)
     else if is_name_start c then name_kind (word_kind (c ∷ cs))
     else if is_word c then number_kind (literal (c ∷ cs))
     else Ok (Some (single_kind c))
@@ -77,7 +82,7 @@ kind_of (c ∷ cs) =
 -- the place behind a character
 abbrev pub past : ℕ → Place → Place
 past c place =
-    if c == 10 then record { line = place.line + 1; column = 1 }
+    if c == newline then record { line = place.line + 1; column = 1 }
     else record { line = place.line; column = place.column + 1 }
 
 -- the place behind a piece

@@ -5,7 +5,7 @@ use Rattle.std.specs.Cmp.Lexicographic.{pointwise}
 use lib.Chars.{codes}
 use Rattle.bqn_base.specs.declared.role.Role.{Role}
 use Rattle.bqn_base.specs.declared.role.Role.TheVariants.{Subject, Function, Mod1, Mod2}
-use Rattle.bqn_base.specs.Characters.{is_digit, is_lower, is_upper, is_letter}
+use Rattle.bqn_base.specs.Characters.{underscore, is_digit, is_lower, is_upper, is_letter}
 use Rattle.bqn_syntax.specs.declared.token.Special.{Special}
 use Rattle.bqn_syntax.specs.declared.token.Special.TheVariants.{Left, Right, Own, LeftOperand, RightOperand, Modifier}
 use Rattle.bqn_syntax.specs.declared.token.Kind.{Kind}
@@ -15,7 +15,7 @@ use Rattle.bqn_syntax.specs.text.Table.{is_one_of}
 -- the last character is an underscore
 abbrev pub ends_in_underscore : List ℕ → Bool
 ends_in_underscore [] = false
-ends_in_underscore (c ∷ []) = c == 95
+ends_in_underscore (c ∷ []) = c == underscore
 ends_in_underscore (c ∷ d ∷ cs) = ends_in_underscore (d ∷ cs)
 
 -- a lower-case letter or one of the special names that are subjects
@@ -26,17 +26,17 @@ begins_subject c = is_lower c || is_one_of (codes "𝕨𝕩𝕤𝕗𝕘𝕣") c
 abbrev pub role_of : List ℕ → Role
 role_of [] = Subject
 role_of (c ∷ cs) =
-    if c == 95 then (if ends_in_underscore (c ∷ cs) then Mod2 else Mod1)
+    if c == underscore then (if ends_in_underscore (c ∷ cs) then Mod2 else Mod1)
     else if begins_subject c then Subject
     else Function
 
 -- the first character behind underscores is a letter
 abbrev pub begins_with_letter : List ℕ → Bool
 begins_with_letter [] = false
-begins_with_letter (c ∷ cs) = elim (c == 95) [ true ↦ begins_with_letter cs | false ↦ is_letter c ]
+begins_with_letter (c ∷ cs) = elim (c == underscore) [ true ↦ begins_with_letter cs | false ↦ is_letter c ]
 
 abbrev pub is_name_character : ℕ → Bool
-is_name_character c = is_letter c || is_digit c || (c == 95)
+is_name_character c = is_letter c || is_digit c || (c == underscore)
 
 -- underscores, then a letter, then letters, digits and underscores
 abbrev pub is_name_word : List ℕ → Bool
@@ -47,7 +47,7 @@ lower_case c = if is_upper c then c + 32 else c
 
 -- names are the same without case and underscores
 abbrev pub name_of : List ℕ → List ℕ
-name_of word = map lower_case (filter (λ c. not (c == 95)) word)
+name_of word = map lower_case (filter (λ c. not (c == underscore)) word)
 
 -- the special name of one character, if it is one
 abbrev pub special_of : ℕ → Option Special

@@ -1,6 +1,6 @@
 use Rattle.std.proofs.Common.{◌≡◌, ◌≤◌, ◌^◌, Some, None, sym, ap, ◌∙◌, arith}
 use Rattle.std.specs.Option.{option_and_then}
-use Rattle.bqn_literal.specs.Spellings.{shown}
+use Rattle.bqn_literal.specs.Spellings.{spelled_by}
 use Rattle.bqn_literal.specs.Values.{nothing, with_digits}
 use Rattle.bqn_literal.specs.declared.significand.Significand.{Significand}
 use Rattle.bqn_literal.proofs.Digits.{figures-are_digits}
@@ -9,20 +9,20 @@ use Rattle.bqn_literal.proofs.word.size_of.Goals as goal
 
 pub returns-in_err-whole : goal.returns-in_err-whole
 returns-in_err-whole c =
-    let s = shown c.args.spelling in
+    let s = spelled_by c.args.spelling in
     let e : with_digits s.whole nothing ≡ None = sym (c.in_err-whole.ensures.value ∙ ap (with_digits s.whole) c.new.ensures) in
     c.from_residual.ensures ∙ sym (size-wide s (figures-are_digits c.args.spelling.whole.now) (figures-are_digits c.args.spelling.fraction.now) (ap (option_and_then (with_digits s.fraction)) e))
 
 pub returns-in_err-read : goal.returns-in_err-read
 returns-in_err-read c =
-    let s = shown c.args.spelling in
+    let s = spelled_by c.args.spelling in
     let e : with_digits s.whole nothing ≡ Some c.in_ok-whole.whole = sym (c.in_ok-whole.ensures.value ∙ ap (with_digits s.whole) c.new.ensures) in
     let f : with_digits s.fraction c.in_ok-whole.whole ≡ None = sym c.in_err-read.ensures.value in
     c.from_residual-in_err-read.ensures ∙ sym (size-wide s (figures-are_digits c.args.spelling.whole.now) (figures-are_digits c.args.spelling.fraction.now) (ap (option_and_then (with_digits s.fraction)) e ∙ f))
 
 pub returns-then-spelling : goal.returns-then-spelling
 returns-then-spelling c =
-    let s = shown c.args.spelling in
+    let s = spelled_by c.args.spelling in
     let e : with_digits s.whole nothing ≡ Some c.in_ok-whole.whole = sym (c.in_ok-whole.ensures.value ∙ ap (with_digits s.whole) c.new.ensures) in
     let f : with_digits s.fraction c.in_ok-whole.whole ≡ Some c.in_ok-read.read = sym c.in_ok-read.ensures.value in
     let few : c.in_ok-read.read.zeros ≤ 2 ^ 66 = omega (arith, ap (λ (t : Significand). t.zeros) c.new.ensures, c.in_ok-whole.ensures.few, c.in_ok-read.ensures.few) in
@@ -31,7 +31,7 @@ returns-then-spelling c =
 
 pub returns-else-spelling : goal.returns-else-spelling
 returns-else-spelling c =
-    let s = shown c.args.spelling in
+    let s = spelled_by c.args.spelling in
     let e : with_digits s.whole nothing ≡ Some c.in_ok-whole.whole = sym (c.in_ok-whole.ensures.value ∙ ap (with_digits s.whole) c.new.ensures) in
     let f : with_digits s.fraction c.in_ok-whole.whole ≡ Some c.in_ok-read.read = sym c.in_ok-read.ensures.value in
     let few : c.in_ok-read.read.zeros ≤ 2 ^ 66 = omega (arith, ap (λ (t : Significand). t.zeros) c.new.ensures, c.in_ok-whole.ensures.few, c.in_ok-read.ensures.few) in
