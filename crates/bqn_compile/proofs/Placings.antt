@@ -1,5 +1,5 @@
 -- Places behind places, and the places of a value without a part at its end.
-use Rattle.std.proofs.Common.{◌≡◌, List, [], ◌∷◌, ◌++◌, Option, map, Result, Ok, Err, OnOk, sym, ap, ◌∙◌, append_assoc, append-nil}
+use Rattle.std.proofs.Common.{◌≡◌, List, [], ◌∷◌, ◌++◌, Option, Some, None, map, Result, Ok, Err, OnOk, refl, sym, ap, ◌∙◌, append_assoc, append-nil}
 use Rattle.std.specs.Option.{option_map}
 use Rattle.bqn_base.specs.declared.place.Place.{Place}
 use Rattle.bqn_syntax.specs.declared.token.Token.{Token}
@@ -9,12 +9,21 @@ use Rattle.bqn_syntax.specs.declared.tree.Part.{Part as CodePart}
 use Rattle.bqn_syntax.specs.declared.tree.Derived.{Derived as CodeDerived}
 use Rattle.bqn_syntax.specs.declared.tree.Step.{Step as CodeStep}
 use Rattle.bqn_syntax.specs.declared.tree.Step.TheVariants as step
-use Rattle.bqn_syntax.specs.blocks.Leads.{or_else, derived_lead}
+use Rattle.bqn_syntax.specs.blocks.Leads.{or_else, or_next, derived_lead}
 use Rattle.bqn_syntax.specs.grammar.Trees.{Value, none, Step, Apply, Assign, Modify, Steps, and_steps, maybe_part, steps, step_of, part_of, derived_of, pattern_of}
 use Rattle.bqn_syntax.specs.grammar.TreeEquations.{step-Apply, step-Assign, step-Modify}
 use Rattle.bqn_compile.specs.Placing.{expr_places, steps_places, derived_places}
 
-pub ruleset placing_laws = (append_assoc, append-nil)
+-- of three leads the first that is there
+pub next-next : (a b c : Option Place) → or_next (or_next a b) c ≡ or_next a (or_next b c)
+next-next None b c = refl
+next-next (Some p) b c = refl
+
+pub next-none : (a : Option Place) → or_next a None ≡ a
+next-none None = refl
+next-none (Some p) = refl
+
+pub ruleset placing_laws = (append_assoc, append-nil, next-next, next-none)
 
 pub on_ok : {T E A : Type 0} (r : Result T E) (x y z : A) → OnOk r (x ≡ y) → y ≡ z → OnOk r (x ≡ z)
 on_ok (Ok v) x y z h e = h ∙ e

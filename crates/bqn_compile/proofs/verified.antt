@@ -50,3 +50,4 @@ pub mod PoolLaws
 pub mod TranslatedCode
 pub mod PlacedCodes
 pub mod Placing
+pub mod PlacesKept

@@ -1,5 +1,5 @@
 -- The places of a body do not depend on what comes before it, nor on pools.
-use Rattle.std.proofs.Common.{◌≡◌, ℕ, Bool, true, false, List, [], ◌∷◌, ◌++◌, Option, Some, None, refl, ap, ◌∙◌, append_assoc}
+use Rattle.std.proofs.Common.{◌≡◌, ℕ, Bool, true, false, List, [], ◌∷◌, ◌++◌, Option, Some, None, refl, ap, sym, ◌∙◌, append_assoc}
 use Rattle.bqn_base.specs.declared.place.Place.{Place}
 use Rattle.bqn_syntax.specs.declared.token.Kind.{Kind}
 use Rattle.bqn_syntax.specs.declared.token.Kind.TheVariants as kind
@@ -188,3 +188,7 @@ rest_is exports l (and_stmts (Export q) ss) = rest_is exports (stmt_lead (Export
 
 pub rests_are : (h : Option Header) (ss : Stmts) → of.header_places h ++ of.rest_places (stmts_export ss) false at_start ss ≡ of.body_places h ss
 rests_are h ss = ap (λ x. of.header_places h ++ x) (rest_is (stmts_export ss) at_start ss)
+
+-- what a walk through the body makes, knowing whether it exports
+pub places_made : (g : Setting) (c : Count) (h : Option Header) (ss : Stmts) (exports : Bool) → exports ≡ stmts_export ss → of.header_places h ++ of.rest_places exports false at_start ss ≡ put_body lays g c h ss
+places_made g c h ss exports e = ap (λ (x : Bool). of.header_places h ++ of.rest_places x false at_start ss) e ∙ rests_are h ss ∙ sym (body_is g c h ss)

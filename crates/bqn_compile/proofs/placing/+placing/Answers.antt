@@ -1,7 +1,7 @@
 use Rattle.std.proofs.Common.{◌∙◌, ap, map, reverse, List, ◌++◌}
 use Rattle.std.proofs.lemmas.Iterator.Adapters.{YieldsList-from_rev_slice}
 use Rattle.std.proofs.lemmas.Iterator.Consumers.{YieldsList-end}
-use Rattle.bqn_syntax.specs.blocks.Leads.{or_else}
+use Rattle.bqn_syntax.specs.blocks.Leads.{or_else, uses_lead, deriveds_lead}
 use Rattle.bqn_syntax.specs.grammar.Trees.{Use, Derived, use_of, derived_of, uses, deriveds}
 use Rattle.bqn_compile.specs.Expressions.{parts_read}
 use Rattle.bqn_compile.specs.Placing.{uses_places, deriveds_places}
@@ -21,11 +21,23 @@ deriveds-returns-clause-read t c =
     ∙ ap (λ (ds : List Derived). parts_read (deriveds ds))
     (all-yielded derived_of c.args.all.now c.loop-d.yielded (YieldsList-end (YieldsList-from_rev_slice c.args.all.now cc) c.loop-d.yielded _ c.loop-d.yielded_by _ _ c.in-None.is c.next.ensures.steps).0)
 
-pub mod_uses-returns : goal.mod_uses-returns
-mod_uses-returns t c =
-    c.loop-u.invariant
+pub mod_uses-returns-clause-places : goal.mod_uses-returns-clause-places
+mod_uses-returns-clause-places t c =
+    c.loop-u.invariant.places
     ∙ ap (λ (us : List Use). c.args.out.now.items ++ uses_places c.args.lead (uses us))
     (all-yielded use_of c.args.all.now c.loop-u.yielded (YieldsList-end (YieldsList-from_rev_slice c.args.all.now cc) c.loop-u.yielded _ c.loop-u.yielded_by _ _ c.in-None.is c.next.ensures.steps).0)
+
+pub mod_uses-returns-clause-own : goal.mod_uses-returns-clause-own
+mod_uses-returns-clause-own t c =
+    c.loop-u.invariant.own
+    ∙ ap (λ (us : List Use). uses_lead (uses us))
+    (all-yielded use_of c.args.all.now c.loop-u.yielded (YieldsList-end (YieldsList-from_rev_slice c.args.all.now cc) c.loop-u.yielded _ c.loop-u.yielded_by _ _ c.in-None.is c.next.ensures.steps).0)
+
+pub deriveds-returns-clause-own : goal.deriveds-returns-clause-own
+deriveds-returns-clause-own t c =
+    c.loop-d.invariant.own
+    ∙ ap (λ (ds : List Derived). deriveds_lead (deriveds ds))
+    (all-yielded derived_of c.args.all.now c.loop-d.yielded (YieldsList-end (YieldsList-from_rev_slice c.args.all.now cc) c.loop-d.yielded _ c.loop-d.yielded_by _ _ c.in-None.is c.next.ensures.steps).0)
 
 pub unstarted-returns-in_ok-push-in-Modify-3 : goal.unstarted-returns-in_ok-push-in-Modify-3
 unstarted-returns-in_ok-push-in-Modify-3 t c =
