@@ -101,7 +101,13 @@ operand_places (Some t) = name_places t.place t.kind
 
 abbrev pub header_places : Option Header → List Place
 header_places None = []
-header_places (Some h) = argument_places (header_lead h) h.left ++ operand_places h.left_operand ++ name_places h.own.place h.own.kind ++ operand_places h.right_operand ++ argument_places (header_lead h) h.right
+header_places (Some h) =
+    argument_places (header_lead h) h.left
+    ++ operand_places h.left_operand
+    ++ name_places h.own.place h.own.kind
+   
+    ++ operand_places h.right_operand
+    ++ argument_places (header_lead h) h.right
 
 -- ---- statements
 
@@ -117,8 +123,10 @@ last_places false p = p ∷ []
 abbrev pub stmts_places : (exports : Bool) → Place → Stmts → List Place
 stmts_places exports l no_stmts = end_places exports l
 stmts_places exports l (and_stmts (Eval e) no_stmts) = expr_places (stmt_lead (Eval e)) e ++ last_places exports (stmt_lead (Eval e))
-stmts_places exports l (and_stmts (Eval e) (and_stmts s ss)) = expr_places (stmt_lead (Eval e)) e ++ stmt_lead (Eval e) ∷ stmts_places exports (stmt_lead (Eval e)) (and_stmts s ss)
-stmts_places exports l (and_stmts (Predicate e) ss) = expr_places (stmt_lead (Predicate e)) e ++ stmt_lead (Predicate e) ∷ stmts_places exports (stmt_lead (Predicate e)) ss
+stmts_places exports l (and_stmts (Eval e) (and_stmts s ss)) =
+    expr_places (stmt_lead (Eval e)) e ++ stmt_lead (Eval e) ∷ stmts_places exports (stmt_lead (Eval e)) (and_stmts s ss)
+stmts_places exports l (and_stmts (Predicate e) ss) =
+    expr_places (stmt_lead (Predicate e)) e ++ stmt_lead (Predicate e) ∷ stmts_places exports (stmt_lead (Predicate e)) ss
 stmts_places exports l (and_stmts (Export q) ss) = stmts_places exports (stmt_lead (Export q)) ss
 
 abbrev pub body_places : Option Header → Stmts → List Place

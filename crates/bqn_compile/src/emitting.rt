@@ -26,6 +26,9 @@ use bqn_code::{Body, Instr};
 use bqn_syntax::{Arrow, BlockTree, BodyTree, Derived, Expr, Header, ModUse, Part, Step, Stmt};
 use std::mem;
 
+/// The code of `>`, which merges the list of `[..]`.
+const MERGE: u8 = 13;
+
 #[cycle(emit)]
 #[tactic(auto, using(bqn_syntax::specs::grammar::TreeEquations::tree_equations, crate::proofs::Walks::walk_laws))]
 fn expr(known: &Known, inside: u32, e: &Expr, out: &mut Walk) -> Result<(), Memory>
@@ -101,7 +104,7 @@ fn part(known: &Known, inside: u32, x: &Part, out: &mut Walk) -> Result<(), Memo
         Part::List(all) => list(known, inside, all.list(), out),
         Part::Merge(all) => {
             push(out, Instr::Call1)?;
-            push(out, Instr::Given(13))?;
+            push(out, Instr::Given(MERGE))?;
             list(known, inside, all.list(), out)
         }
         Part::Paren(e) => expr(known, inside, e.get(), out),

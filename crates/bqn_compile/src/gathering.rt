@@ -10,7 +10,7 @@ ghost use Rattle.bqn_compile.specs.Shown.{GathersTo, gathered_shown};
 
 use crate::error::CompileError;
 use crate::patterns::pattern_code;
-use crate::pooling::{constant, defines, fields, name, opens, refers, shown};
+use crate::pooling::{constant, defines, fields, name, opens, refers, exported};
 use crate::pools::Pools;
 use bqn_scope::Use;
 use bqn_syntax::{
@@ -343,7 +343,7 @@ fn stmt(pools: &mut Pools, uses: &[Use], s: &Stmt) -> Result<(), CompileError>
 {
     match s {
         Stmt::Eval(e) | Stmt::Predicate(e) => expr(pools, uses, e),
-        Stmt::Export(q) => shown(pools, q),
+        Stmt::Export(q) => exported(pools, q),
     }
 }
 

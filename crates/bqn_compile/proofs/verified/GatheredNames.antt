@@ -126,16 +126,16 @@ kind_blocks (kind.Word name r) = refl
 kind_blocks _ = refl
 
 mutual
-  shown_adds : (q : tree.Pattern) → Adds (gather.shown q) nothing (pattern_size q)
-  shown_adds (Name t) = pooled_adds (name_of t)
-  shown_adds (Skip place) = within refl (omega arith) done_adds
-  shown_adds (Literal t) = within refl (omega arith) done_adds
-  shown_adds (ListPattern qs) = within refl (omega arith) (all_shown_add qs)
-  shown_adds (StrandPattern qs) = all_shown_add qs
+  exported_adds : (q : tree.Pattern) → Adds (gather.exported q) nothing (pattern_size q)
+  exported_adds (Name t) = pooled_adds (name_of t)
+  exported_adds (Skip place) = within refl (omega arith) done_adds
+  exported_adds (Literal t) = within refl (omega arith) done_adds
+  exported_adds (ListPattern qs) = within refl (omega arith) (all_exported_add qs)
+  exported_adds (StrandPattern qs) = all_exported_add qs
 
-  all_shown_add : (qs : Patterns) → Adds (gather.all_shown qs) nothing (patterns_size qs)
-  all_shown_add no_patterns = done_adds
-  all_shown_add (and_patterns q qs) = within (omega arith) (omega arith) (both (shown_adds q) (all_shown_add qs))
+  all_exported_add : (qs : Patterns) → Adds (gather.all_exported qs) nothing (patterns_size qs)
+  all_exported_add no_patterns = done_adds
+  all_exported_add (and_patterns q qs) = within (omega arith) (omega arith) (both (exported_adds q) (all_exported_add qs))
 
 module _ (m : Most) (uses : List scope.Use) where
   refers_adds : (defining : Bool) (place : Place) → Adds (gather.refers m uses defining place) nothing 0
@@ -268,7 +268,7 @@ module _ (m : Most) (uses : List scope.Use) where
     stmt_adds : (s : Stmt) → Adds (gather.stmt m uses s) (in_stmt s) (stmt_size s)
     stmt_adds (Eval e) = expr_adds e
     stmt_adds (Predicate e) = within refl (omega arith) (expr_adds e)
-    stmt_adds (Export q) = within refl (omega arith) (shown_adds q)
+    stmt_adds (Export q) = within refl (omega arith) (exported_adds q)
 
     bodies_add : (bs : Bodies) → Adds (gather.bodies m uses bs) (in_bodies bs) (bodies_size bs)
     bodies_add no_bodies = done_adds

@@ -210,16 +210,16 @@ fields_grow [] = done_grows
 fields_grow (t ∷ ts) = both_grow nothing nothing (gather.pooled (name_of t)) (gather.fields ts) (pooled_grows (name_of t)) (fields_grow ts)
 
 mutual
-  pub shown_grows : (q : Pattern) → GrowsBy nothing (gather.shown q)
-  shown_grows (Name t) = pooled_grows (name_of t)
-  shown_grows (Skip place) = done_grows
-  shown_grows (Literal t) = done_grows
-  shown_grows (ListPattern qs) = all_shown_grow qs
-  shown_grows (StrandPattern qs) = all_shown_grow qs
+  pub exported_grows : (q : Pattern) → GrowsBy nothing (gather.exported q)
+  exported_grows (Name t) = pooled_grows (name_of t)
+  exported_grows (Skip place) = done_grows
+  exported_grows (Literal t) = done_grows
+  exported_grows (ListPattern qs) = all_exported_grow qs
+  exported_grows (StrandPattern qs) = all_exported_grow qs
 
-  pub all_shown_grow : (qs : Patterns) → GrowsBy nothing (gather.all_shown qs)
-  all_shown_grow no_patterns = done_grows
-  all_shown_grow (and_patterns q qs) = both_grow nothing nothing (gather.shown q) (gather.all_shown qs) (shown_grows q) (all_shown_grow qs)
+  pub all_exported_grow : (qs : Patterns) → GrowsBy nothing (gather.all_exported qs)
+  all_exported_grow no_patterns = done_grows
+  all_exported_grow (and_patterns q qs) = both_grow nothing nothing (gather.exported q) (gather.all_exported qs) (exported_grows q) (all_exported_grow qs)
 
 -- ---- patterns
 
@@ -278,7 +278,7 @@ module _ (m : Most) (uses : List scope.Use) where
   item_grows (Fields ts) w = fields_grow ts
   item_grows (Taken l how q) w = pattern_grows l how q w.pattern
   item_grows (Opened place n) w = opens_grows place n
-  item_grows (Shown q) w = shown_grows q
+  item_grows (Shown q) w = exported_grows q
 
   pub all_grow : (xs : List Item) → EveryItem WellItem xs → GrowsBy (items_count xs) (items_gathering m uses xs)
   all_grow [] w = done_grows

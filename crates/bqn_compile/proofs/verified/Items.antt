@@ -13,7 +13,7 @@ use Rattle.bqn_syntax.specs.scope.Scope as scope
 use Rattle.bqn_syntax.specs.blocks.Counting.{how_many}
 use Rattle.bqn_compile.specs.declared.count.Count.{Count}
 use Rattle.bqn_compile.specs.Counting.{nothing, past, in_token, in_pattern, one_block}
-use Rattle.bqn_compile.specs.Gathering.{Gathers, Most, done, ◌▹◌, opens, fields, shown, token, pattern}
+use Rattle.bqn_compile.specs.Gathering.{Gathers, Most, done, ◌▹◌, opens, fields, exported, token, pattern}
 
 -- a token by itself; the names behind a part; a pattern, with whether literals may stand in it; the brace of a block with so many
 -- bodies; names that are exported without a value
@@ -139,7 +139,7 @@ module _ (m : Most) (uses : List scope.Use) where
   item_gathering (Fields ts) = fields ts
   item_gathering (Taken l how q) = pattern m uses how q
   item_gathering (Opened place n) = opens m place
-  item_gathering (Shown q) = shown q
+  item_gathering (Shown q) = exported q
 
   abbrev pub items_gathering : List Item → Gathers
   items_gathering [] = done

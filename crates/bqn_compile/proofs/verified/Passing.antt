@@ -85,23 +85,23 @@ module _ (m : Most) (constant : Const → Bool) (name : List ℕ → Bool) where
   FieldsPass (t ∷ ts) = (name (name_of t) ≡ true) × FieldsPass ts
 
   abbrev mutual
-    pub ShownPasses : Pattern → Type 0
-    ShownPasses (Name t) = name (name_of t) ≡ true
-    ShownPasses (Skip place) = Unit {0}
-    ShownPasses (Literal t) = Unit {0}
-    ShownPasses (ListPattern qs) = AllShownPass qs
-    ShownPasses (StrandPattern qs) = AllShownPass qs
+    pub ExportedPasses : Pattern → Type 0
+    ExportedPasses (Name t) = name (name_of t) ≡ true
+    ExportedPasses (Skip place) = Unit {0}
+    ExportedPasses (Literal t) = Unit {0}
+    ExportedPasses (ListPattern qs) = AllExportedPass qs
+    ExportedPasses (StrandPattern qs) = AllExportedPass qs
 
-    pub AllShownPass : Patterns → Type 0
-    AllShownPass no_patterns = Unit {0}
-    AllShownPass (and_patterns q qs) = ShownPasses q × AllShownPass qs
+    pub AllExportedPass : Patterns → Type 0
+    AllExportedPass no_patterns = Unit {0}
+    AllExportedPass (and_patterns q qs) = ExportedPasses q × AllExportedPass qs
 
   abbrev pub ItemPasses : Item → Type 0
   ItemPasses (Alone how t) = KindPasses t.kind
   ItemPasses (Fields ts) = FieldsPass ts
   ItemPasses (Taken l how q) = PatternPasses q
   ItemPasses (Opened place n) = Unit {0}
-  ItemPasses (Shown q) = ShownPasses q
+  ItemPasses (Shown q) = ExportedPasses q
 
   -- ---- steps
 
@@ -178,16 +178,16 @@ module _ (m : Most) (constant : Const → Bool) (name : List ℕ → Bool) where
     fields_pass (t ∷ ts) p = at_most (1 + length ts) (length (t ∷ ts)) (gather.fields (t ∷ ts)) (omega arith) (both_pass 1 (length ts) (gather.pooled (name_of t)) (gather.fields ts) (pooled_passes (name_of t) p.0) (fields_pass ts p.1))
 
     mutual
-      shown_passes : (q : Pattern) → ShownPasses q → PassesBy (leaf_names q) (gather.shown q)
-      shown_passes (Name t) p = pooled_passes (name_of t) p
-      shown_passes (Skip place) p = done_passes
-      shown_passes (Literal t) p = at_most 0 1 done (omega arith) done_passes
-      shown_passes (ListPattern qs) p = all_shown_pass qs p
-      shown_passes (StrandPattern qs) p = all_shown_pass qs p
+      exported_passes : (q : Pattern) → ExportedPasses q → PassesBy (leaf_names q) (gather.exported q)
+      exported_passes (Name t) p = pooled_passes (name_of t) p
+      exported_passes (Skip place) p = done_passes
+      exported_passes (Literal t) p = at_most 0 1 done (omega arith) done_passes
+      exported_passes (ListPattern qs) p = all_exported_pass qs p
+      exported_passes (StrandPattern qs) p = all_exported_pass qs p
 
-      all_shown_pass : (qs : Patterns) → AllShownPass qs → PassesBy (all_leaf_names qs) (gather.all_shown qs)
-      all_shown_pass no_patterns p = done_passes
-      all_shown_pass (and_patterns q qs) p = both_pass (leaf_names q) (all_leaf_names qs) (gather.shown q) (gather.all_shown qs) (shown_passes q p.0) (all_shown_pass qs p.1)
+      all_exported_pass : (qs : Patterns) → AllExportedPass qs → PassesBy (all_leaf_names qs) (gather.all_exported qs)
+      all_exported_pass no_patterns p = done_passes
+      all_exported_pass (and_patterns q qs) p = both_pass (leaf_names q) (all_leaf_names qs) (gather.exported q) (gather.all_exported qs) (exported_passes q p.0) (all_exported_pass qs p.1)
 
     mutual
       leaves_pass : (how : How) (q : Pattern) → PatternPasses q → PassesBy (leaf_names q) (gather.leaves m uses how q)
@@ -217,7 +217,7 @@ module _ (m : Most) (constant : Const → Bool) (name : List ℕ → Bool) where
     item_passes (Fields ts) p = fields_pass ts p
     item_passes (Taken l how q) p = at_most (leaf_names q) (pattern_size q) (gather.pattern m uses how q) (few_leaf_names q) (pattern_passes how q p)
     item_passes (Opened place n) p = opens_passes place
-    item_passes (Shown q) p = at_most (leaf_names q) (pattern_size q) (gather.shown q) (few_leaf_names q) (shown_passes q p)
+    item_passes (Shown q) p = at_most (leaf_names q) (pattern_size q) (gather.exported q) (few_leaf_names q) (exported_passes q p)
 
     pub all_pass : (xs : List Item) → EveryItem ItemPasses xs → PassesBy (items_size xs) (items_gathering m uses xs)
     all_pass [] p = done_passes

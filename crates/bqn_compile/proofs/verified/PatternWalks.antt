@@ -24,7 +24,7 @@ use Rattle.bqn_compile.specs.Counting.{nothing, past, in_kind, in_leaves, in_all
 use Rattle.bqn_compile.specs.Pools.{constant_of, seen_at, name_number}
 use Rattle.bqn_compile.specs.Patterns.{pattern_code, patterns_code, stored_leaf, literal_leaf}
 use Rattle.bqn_compile.specs.Expressions.{load, store, target_instr}
-use Rattle.bqn_compile.specs.Gathering.{Gathered, the_most, pooled, pattern_leaf, with_pattern, leaves, all_leaves, pattern, target, shown, all_shown}
+use Rattle.bqn_compile.specs.Gathering.{Gathered, the_most, pooled, pattern_leaf, with_pattern, leaves, all_leaves, pattern, target, exported, all_exported}
 use Rattle.bqn_compile.specs.Translation.{setting}
 use Rattle.bqn_compile.proofs.verified.Tests.{both_true}
 use Rattle.bqn_compile.proofs.verified.Fronts.{Front, front_same, front_more, front_at, at_end}
@@ -199,18 +199,18 @@ module _ (o : Made) where
 
   -- ---- exported names without a value
 
-  shown_kind : (h : Here o) (k : Kind) (t : Token) → spelling k ≡ name_of t → is_word k ≡ true → Walk o h (pooled (name_of t)) (λ ms. leaf_mention Shows k t ms) nothing (λ c. Unit {0})
-  shown_kind h (kind.Word name r) t e w = judged_walk o h (pooled (name_of t)) (Named Shows t) tt (λ g g' q. (pooled_there (name_of t) g g' q).kept) (λ g g' q. (pooled_there (name_of t) g g' q).there)
-  shown_kind h _ t e w = absurd (false≢true w)
+  exported_kind : (h : Here o) (k : Kind) (t : Token) → spelling k ≡ name_of t → is_word k ≡ true → Walk o h (pooled (name_of t)) (λ ms. leaf_mention Shows k t ms) nothing (λ c. Unit {0})
+  exported_kind h (kind.Word name r) t e w = judged_walk o h (pooled (name_of t)) (Named Shows t) tt (λ g g' q. (pooled_there (name_of t) g g' q).kept) (λ g g' q. (pooled_there (name_of t) g g' q).there)
+  exported_kind h _ t e w = absurd (false≢true w)
 
   mutual
-    pub shown_walk : (h : Here o) (q : Pattern) → WellPattern false q → Walk o h (shown q) (λ ms. pattern_mentions Shows q ms) nothing (λ c. Unit {0})
-    shown_walk h (Name t) w = shown_kind h t.kind t refl w
-    shown_walk h (Skip place) w = skip o {h = h}
-    shown_walk h (Literal t) w = absurd (false≢true w.0)
-    shown_walk h (ListPattern qs) w = all_shown_walk h qs w
-    shown_walk h (StrandPattern qs) w = all_shown_walk h qs (joined_well false qs w.1)
+    pub exported_walk : (h : Here o) (q : Pattern) → WellPattern false q → Walk o h (exported q) (λ ms. pattern_mentions Shows q ms) nothing (λ c. Unit {0})
+    exported_walk h (Name t) w = exported_kind h t.kind t refl w
+    exported_walk h (Skip place) w = skip o {h = h}
+    exported_walk h (Literal t) w = absurd (false≢true w.0)
+    exported_walk h (ListPattern qs) w = all_exported_walk h qs w
+    exported_walk h (StrandPattern qs) w = all_exported_walk h qs (joined_well false qs w.1)
 
-    all_shown_walk : (h : Here o) (qs : Patterns) → WellPatterns false qs → Walk o h (all_shown qs) (λ ms. patterns_mentions Shows qs ms) nothing (λ c. Unit {0})
-    all_shown_walk h no_patterns w = skip o {h = h}
-    all_shown_walk h (and_patterns q qs) w = because o (λ c f. tt) (both o (shown_walk h q w.0) (all_shown_walk h qs w.1))
+    all_exported_walk : (h : Here o) (qs : Patterns) → WellPatterns false qs → Walk o h (all_exported qs) (λ ms. patterns_mentions Shows qs ms) nothing (λ c. Unit {0})
+    all_exported_walk h no_patterns w = skip o {h = h}
+    all_exported_walk h (and_patterns q qs) w = because o (λ c f. tt) (both o (exported_walk h q w.0) (all_exported_walk h qs w.1))

@@ -18,7 +18,7 @@ use Rattle.bqn_compile.specs.Bodies.{names_in, exports_code}
 use Rattle.bqn_compile.specs.Translation.{at_start}
 use Rattle.bqn_compile.proofs.verified.Tests.{both_true, left_true, right_true}
 use Rattle.bqn_compile.proofs.verified.Items.{Item, Alone, Fields, Taken, Opened, Shown, stmts_items}
-use Rattle.bqn_compile.proofs.verified.PooledItems.{KindPooled, PatternPooled, PatternsPooled, ShownPooled, AllShownPooled, IsTaken, pattern_stays, name_below}
+use Rattle.bqn_compile.proofs.verified.PooledItems.{KindPooled, PatternPooled, PatternsPooled, ExportedPooled, AllExportedPooled, IsTaken, pattern_stays, name_below}
 use Rattle.bqn_compile.proofs.verified.MentionedItems.{EveryMention, KindMentioned, PatternMentioned, PatternsMentioned, ItemMentioned, stmts_mentioned}
 use Rattle.bqn_compile.proofs.verified.ResolvedExports.{Exported, names_pass, bodies_pass, all_bodies_pass, body_passes, resolved_bodies}
 use Rattle.bqn_compile.proofs.verified.PoolFacts.{Facts, SourcePools, each_every}
@@ -52,14 +52,14 @@ module _ (cs : List Const) (ns : List (List ℕ)) where
   name_shown k t h = tt
 
   mutual
-    shown_exported : (q : Pattern) → ShownPooled ns q → PatternMentioned (Exported pooled) Shows q
+    shown_exported : (q : Pattern) → ExportedPooled ns q → PatternMentioned (Exported pooled) Shows q
     shown_exported (Name t) h = name_shown t.kind t h
     shown_exported (Skip place) h = tt
     shown_exported (Literal t) h = tt
     shown_exported (ListPattern qs) h = all_shown_exported qs h
     shown_exported (StrandPattern qs) h = all_shown_exported qs h
 
-    all_shown_exported : (qs : Patterns) → AllShownPooled ns qs → PatternsMentioned (Exported pooled) Shows qs
+    all_shown_exported : (qs : Patterns) → AllExportedPooled ns qs → PatternsMentioned (Exported pooled) Shows qs
     all_shown_exported no_patterns h = tt
     all_shown_exported (and_patterns q qs) h = (shown_exported q h.0, all_shown_exported qs h.1)
 

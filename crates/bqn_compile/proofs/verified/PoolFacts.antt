@@ -27,7 +27,7 @@ use Rattle.bqn_compile.proofs.verified.Growth.{begins_same, Grows, leaves_are_us
 use Rattle.bqn_compile.proofs.verified.WellItems.{program_well}
 use Rattle.bqn_compile.proofs.verified.SpelledItems.{ItemTokens, AllTokens, PatternTokens, PatternsTokens, pattern_size, patterns_size, item_size, items_size, fits_size, exacts_hold, stmts_give}
 use Rattle.bqn_compile.proofs.verified.PooledItems.{ItemPooled, Within, all_pooled}
-use Rattle.bqn_compile.proofs.verified.Passing.{KindPasses, PatternPasses, PatternsPass, FieldsPass, ShownPasses, AllShownPass, ItemPasses, Passes, all_pass}
+use Rattle.bqn_compile.proofs.verified.Passing.{KindPasses, PatternPasses, PatternsPass, FieldsPass, ExportedPasses, AllExportedPass, ItemPasses, Passes, all_pass}
 
 -- ---- all of what is known of one thing
 
@@ -87,27 +87,27 @@ module _ (m : Most) (test : List ℕ → Bool) (passes : (name : List ℕ) → b
     patterns_pass (and_patterns q qs) h = (pattern_passes q h.0, patterns_pass qs h.1)
 
   mutual
-    shown_passes : (q : Pattern) → WellPattern false q → PatternTokens TokenFits q → ShownPasses m text_is_short test q
-    shown_passes (Name t) w h = word_passes t.kind t refl w h
-    shown_passes (Skip place) w h = tt
-    shown_passes (Literal t) w h = tt
-    shown_passes (ListPattern qs) w h = all_shown_pass qs w h
-    shown_passes (StrandPattern qs) w h = joined_shown_pass qs w.1 h
+    exported_passes : (q : Pattern) → WellPattern false q → PatternTokens TokenFits q → ExportedPasses m text_is_short test q
+    exported_passes (Name t) w h = word_passes t.kind t refl w h
+    exported_passes (Skip place) w h = tt
+    exported_passes (Literal t) w h = tt
+    exported_passes (ListPattern qs) w h = all_exported_pass qs w h
+    exported_passes (StrandPattern qs) w h = joined_shown_pass qs w.1 h
 
-    all_shown_pass : (qs : Patterns) → WellPatterns false qs → PatternsTokens TokenFits qs → AllShownPass m text_is_short test qs
-    all_shown_pass no_patterns w h = tt
-    all_shown_pass (and_patterns q qs) w h = (shown_passes q w.0 h.0, all_shown_pass qs w.1 h.1)
+    all_exported_pass : (qs : Patterns) → WellPatterns false qs → PatternsTokens TokenFits qs → AllExportedPass m text_is_short test qs
+    all_exported_pass no_patterns w h = tt
+    all_exported_pass (and_patterns q qs) w h = (exported_passes q w.0 h.0, all_exported_pass qs w.1 h.1)
 
-    joined_shown_pass : (qs : Patterns) → WellJoined false qs → PatternsTokens TokenFits qs → AllShownPass m text_is_short test qs
+    joined_shown_pass : (qs : Patterns) → WellJoined false qs → PatternsTokens TokenFits qs → AllExportedPass m text_is_short test qs
     joined_shown_pass no_patterns w h = tt
-    joined_shown_pass (and_patterns q qs) w h = (shown_passes q w.1 h.0, joined_shown_pass qs w.2 h.1)
+    joined_shown_pass (and_patterns q qs) w h = (exported_passes q w.1 h.0, joined_shown_pass qs w.2 h.1)
 
   item_passes : (x : Item) → WellItem x → ItemTokens TokenFits x → ItemPasses m text_is_short test x
   item_passes (Alone how t) w h = kind_passes t.kind h
   item_passes (Fields ts) w h = fields_pass ts w h
   item_passes (Taken l how q) w h = pattern_passes q h
   item_passes (Opened place n) w h = tt
-  item_passes (Shown q) w h = shown_passes q w h
+  item_passes (Shown q) w h = exported_passes q w h
 
 -- ---- how many patterns
 

@@ -26,7 +26,7 @@ use Rattle.bqn_compile.specs.Patterns.{pattern_code}
 use Rattle.bqn_compile.specs.Gathering as gather
 use Rattle.bqn_compile.specs.Gathering.{Gathered, Most, and_on, if_room}
 use Rattle.bqn_compile.proofs.verified.Items.{Item, Alone, Fields, Taken, Opened, Shown, WellItem, EveryItem, EachItem, item_count, item_gathering, items_gathering}
-use Rattle.bqn_compile.proofs.verified.Growth.{Begins, begins_same, begins_through, ok_same, Between, between, roomed, fields_grow, all_shown_grow, leaves_grow, all_leaves_grow, joined_leaves_grow, leaves_are_uses, item_grows, all_grow}
+use Rattle.bqn_compile.proofs.verified.Growth.{Begins, begins_same, begins_through, ok_same, Between, between, roomed, fields_grow, all_exported_grow, leaves_grow, all_leaves_grow, joined_leaves_grow, leaves_are_uses, item_grows, all_grow}
 
 -- ---- numbers of what is pooled
 
@@ -80,16 +80,16 @@ FieldsPooled ns [] = Unit {0}
 FieldsPooled ns (t ∷ ts) = (has ns (name_of t) ≡ true) × FieldsPooled ns ts
 
 abbrev mutual
-  pub ShownPooled : List (List ℕ) → Pattern → Type 0
-  ShownPooled ns (Name t) = has ns (name_of t) ≡ true
-  ShownPooled ns (Skip place) = Unit {0}
-  ShownPooled ns (Literal t) = Unit {0}
-  ShownPooled ns (ListPattern qs) = AllShownPooled ns qs
-  ShownPooled ns (StrandPattern qs) = AllShownPooled ns qs
+  pub ExportedPooled : List (List ℕ) → Pattern → Type 0
+  ExportedPooled ns (Name t) = has ns (name_of t) ≡ true
+  ExportedPooled ns (Skip place) = Unit {0}
+  ExportedPooled ns (Literal t) = Unit {0}
+  ExportedPooled ns (ListPattern qs) = AllExportedPooled ns qs
+  ExportedPooled ns (StrandPattern qs) = AllExportedPooled ns qs
 
-  pub AllShownPooled : List (List ℕ) → Patterns → Type 0
-  AllShownPooled ns no_patterns = Unit {0}
-  AllShownPooled ns (and_patterns q qs) = ShownPooled ns q × AllShownPooled ns qs
+  pub AllExportedPooled : List (List ℕ) → Patterns → Type 0
+  AllExportedPooled ns no_patterns = Unit {0}
+  AllExportedPooled ns (and_patterns q qs) = ExportedPooled ns q × AllExportedPooled ns qs
 
 -- a pattern with its number, made with pools that these begin with
 pub record IsTaken (uses : List scope.Use) (pools : Gathered) (c : Count) (how : How) (q : Pattern) : Type 0 where
@@ -105,7 +105,7 @@ ItemPooled uses g c (Alone how t) = KindPooled (exports_it how) g.constants g.na
 ItemPooled uses g c (Fields ts) = FieldsPooled g.names ts
 ItemPooled uses g c (Taken l how q) = IsTaken uses g c how q
 ItemPooled uses g c (Opened place n) = Unit {0}
-ItemPooled uses g c (Shown q) = ShownPooled g.names q
+ItemPooled uses g c (Shown q) = ExportedPooled g.names q
 
 -- ---- it stays
 
@@ -149,16 +149,16 @@ module _ (cs ds : List Const) (ns ms : List (List ℕ)) (bc : Begins cs ds) (bn 
   fields_stay (t ∷ ts) h = (has_more ns ms (name_of t) bn h.0, fields_stay ts h.1)
 
   mutual
-    shown_stays : (q : Pattern) → ShownPooled ns q → ShownPooled ms q
-    shown_stays (Name t) h = has_more ns ms (name_of t) bn h
-    shown_stays (Skip place) h = tt
-    shown_stays (Literal t) h = tt
-    shown_stays (ListPattern qs) h = all_shown_stay qs h
-    shown_stays (StrandPattern qs) h = all_shown_stay qs h
+    exported_stays : (q : Pattern) → ExportedPooled ns q → ExportedPooled ms q
+    exported_stays (Name t) h = has_more ns ms (name_of t) bn h
+    exported_stays (Skip place) h = tt
+    exported_stays (Literal t) h = tt
+    exported_stays (ListPattern qs) h = all_exported_stay qs h
+    exported_stays (StrandPattern qs) h = all_exported_stay qs h
 
-    all_shown_stay : (qs : Patterns) → AllShownPooled ns qs → AllShownPooled ms qs
-    all_shown_stay no_patterns h = tt
-    all_shown_stay (and_patterns q qs) h = (shown_stays q h.0, all_shown_stay qs h.1)
+    all_exported_stay : (qs : Patterns) → AllExportedPooled ns qs → AllExportedPooled ms qs
+    all_exported_stay no_patterns h = tt
+    all_exported_stay (and_patterns q qs) h = (exported_stays q h.0, all_exported_stay qs h.1)
 
 -- ---- one step
 
@@ -228,19 +228,19 @@ fields_pooled (t ∷ ts) g h e =
     (has_more o.middle.names h.names (name_of t) (fields_grow ts o.middle h o.second).names (name_pooled (name_of t) g o.middle o.first), fields_pooled ts o.middle h o.second)
 
 mutual
-  shown_pooled : (q : Pattern) (g h : Gathered) → gather.shown q g ≡ Ok h → ShownPooled h.names q
-  shown_pooled (Name t) g h e = name_pooled (name_of t) g h e
-  shown_pooled (Skip place) g h e = tt
-  shown_pooled (Literal t) g h e = tt
-  shown_pooled (ListPattern qs) g h e = all_shown_pooled qs g h e
-  shown_pooled (StrandPattern qs) g h e = all_shown_pooled qs g h e
+  exported_pooled : (q : Pattern) (g h : Gathered) → gather.exported q g ≡ Ok h → ExportedPooled h.names q
+  exported_pooled (Name t) g h e = name_pooled (name_of t) g h e
+  exported_pooled (Skip place) g h e = tt
+  exported_pooled (Literal t) g h e = tt
+  exported_pooled (ListPattern qs) g h e = all_exported_pooled qs g h e
+  exported_pooled (StrandPattern qs) g h e = all_exported_pooled qs g h e
 
-  all_shown_pooled : (qs : Patterns) (g h : Gathered) → gather.all_shown qs g ≡ Ok h → AllShownPooled h.names qs
-  all_shown_pooled no_patterns g h e = tt
-  all_shown_pooled (and_patterns q qs) g h e =
-      let o = between (gather.shown q g) (gather.all_shown qs) h e in
-      let b = all_shown_grow qs o.middle h o.second in
-      (shown_stays o.middle.constants h.constants o.middle.names h.names b.constants b.names q (shown_pooled q g o.middle o.first), all_shown_pooled qs o.middle h o.second)
+  all_exported_pooled : (qs : Patterns) (g h : Gathered) → gather.all_exported qs g ≡ Ok h → AllExportedPooled h.names qs
+  all_exported_pooled no_patterns g h e = tt
+  all_exported_pooled (and_patterns q qs) g h e =
+      let o = between (gather.exported q g) (gather.all_exported qs) h e in
+      let b = all_exported_grow qs o.middle h o.second in
+      (exported_stays o.middle.constants h.constants o.middle.names h.names b.constants b.names q (exported_pooled q g o.middle o.first), all_exported_pooled qs o.middle h o.second)
 
 module _ (m : Most) (uses : List scope.Use) where
   mutual
@@ -285,7 +285,7 @@ module _ (m : Most) (uses : List scope.Use) where
   item_pooled (Fields ts) w g h c u p e = fields_pooled ts g h e
   item_pooled (Taken l how q) w g h c u p e = pattern_taken l how q w.pattern g h c u p e
   item_pooled (Opened place n) w g h c u p e = tt
-  item_pooled (Shown q) w g h c u p e = shown_pooled q g h e
+  item_pooled (Shown q) w g h c u p e = exported_pooled q g h e
 
   -- ---- all of them
 
@@ -307,7 +307,7 @@ module _ (m : Most) (uses : List scope.Use) where
     there = subst (λ (l : List code.Pattern). slice_get l c.patterns ≡ Some (pattern_code uses p.constants p.names how c.uses q)) (sym b.patterns.are) (append_front g.patterns b.patterns.rest c.patterns _ p.there);
   }
   item_stays g h b c (Opened place n) p = tt
-  item_stays g h b c (Shown q) p = shown_stays g.constants h.constants g.names h.names b.constants b.names q p
+  item_stays g h b c (Shown q) p = exported_stays g.constants h.constants g.names h.names b.constants b.names q p
 
   pub all_pooled : (xs : List Item) → EveryItem WellItem xs → (g h f : Gathered) (c : Count) → c.uses ≡ g.uses → c.patterns ≡ length g.patterns → items_gathering m uses xs g ≡ Ok h → Within h f → EachItem (ItemPooled uses f) c xs
   all_pooled [] w g h f c u p e b = tt

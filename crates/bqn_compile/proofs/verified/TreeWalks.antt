@@ -22,7 +22,7 @@ use Rattle.bqn_compile.proofs.Counts.{past-nothing}
 use Rattle.bqn_compile.proofs.verified.EveryBody.{EveryInExpr, EveryInPart, EveryInSteps, EveryInStep, EveryInDerived, EveryInUses, EveryInUse, EveryInDeriveds, EveryInExprs, EveryInParts, EveryInStmts, EveryInStmt}
 use Rattle.bqn_compile.proofs.verified.Walking.{Made, Passes, Fits, append_passes, cons_passes, no_passes, Here, Walk, both, because, skip}
 use Rattle.bqn_compile.proofs.verified.NameWalks.{uses, TokenFits, word_fits, name_word, token_walk}
-use Rattle.bqn_compile.proofs.verified.PatternWalks.{target_walk, shown_walk, store_passes, load_passes}
+use Rattle.bqn_compile.proofs.verified.PatternWalks.{target_walk, exported_walk, store_passes, load_passes}
 use Rattle.bqn_compile.proofs.verified.HeaderWalks.{made, header_walk, targets_walk, fields_walk, fields_pass, derives_pass, fork_passes, atop_passes, leaf_passes}
 use Rattle.bqn_compile.proofs.verified.BlockWalks.{Holds, BodyWalk, BodiesWalk, no_more_bodies, more_bodies, block_case}
 
@@ -171,7 +171,7 @@ module _ (o : Made) where
     stmt_walk : (h : Here o) (in_block : Bool) (x : Stmt) → WellStmt in_block x → Walk o h (stmt the_most (uses o) x) (λ ms. stmt_mentions x ms) (in_stmt x) (StmtFacts h x)
     stmt_walk h b (Eval e) w = expr_walk h e w
     stmt_walk h b (Predicate e) w = expr_walk h e w.2
-    stmt_walk h b (Export q) w = because o (λ c f. (no_passes o, tt)) (shown_walk o h q w)
+    stmt_walk h b (Export q) w = because o (λ c f. (no_passes o, tt)) (exported_walk o h q w)
 
     bodies_walk : (x : Bodies) → WellBodies x → BodiesWalk o x
     bodies_walk no_bodies w = no_more_bodies o
