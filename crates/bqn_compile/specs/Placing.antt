@@ -105,7 +105,6 @@ header_places (Some h) =
     argument_places (header_lead h) h.left
     ++ operand_places h.left_operand
     ++ name_places h.own.place h.own.kind
-   
     ++ operand_places h.right_operand
     ++ argument_places (header_lead h) h.right
 

@@ -179,7 +179,8 @@ module _ (g : Setting) (names : List BodyNames) (inside : ℕ) where
   abbrev mutual
     pub expr_walk : Expr → Walked → Walked
     expr_walk (Value none (and_steps (Modify t d) ss)) w =
-        push (load_at g (steps_walk ss w)) (derived_walk d (skip (in_token t) (push i.Call1 (push (store_at g arrow.Change (steps_walk ss w)) (steps_walk ss w)))))
+        push (load_at g (steps_walk ss w))
+        (derived_walk d (skip (in_token t) (push i.Call1 (push (store_at g arrow.Change (steps_walk ss w)) (steps_walk ss w)))))
     expr_walk (Value none ss) w = push i.Nothing (steps_walk ss w)
     expr_walk (Value (some x) ss) w = part_walk x (steps_walk ss w)
     expr_walk (Train ts ds) w = deriveds_walk ds (pushes (atop_code (parts_read ds)) (targets_walk g ts w))

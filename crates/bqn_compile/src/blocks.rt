@@ -36,7 +36,8 @@ pub fn program_blocks(
     names: &[BodyNames],
     statements: &[Stmt],
 ) -> Result<Row<Block>, Memory>
-    ensures { IfOk result (λ r. r ≡ program (setting_shown uses.now pools.now) (map body_shown names.now) (plain_stmts (map stmt_of statements.now)) ∷ stmts_blocks (setting_shown uses.now pools.now) (map body_shown names.now) 0 (plain_stmts (map stmt_of statements.now)) at_start) }
+    ensures { IfOk result (λ r. r ≡ program (setting_shown uses.now pools.now) (map body_shown names.now) (plain_stmts (map stmt_of statements.now))
+        ∷ stmts_blocks (setting_shown uses.now pools.now) (map body_shown names.now) 0 (plain_stmts (map stmt_of statements.now)) at_start) }
 {
     let known = Known { uses, pools, names };
     let mut out = Walk {

@@ -64,7 +64,8 @@ fn expr(known: &Known, inside: u32, e: &Expr, out: &mut Walk) -> Result<(), Memo
 #[cycle(emit)]
 #[tactic(auto, using(bqn_syntax::specs::grammar::TreeEquations::tree_equations, crate::proofs::Walks::walk_laws))]
 fn unstarted(known: &Known, inside: u32, all: &[Step], out: &mut Walk) -> Result<(), Memory>
-    ensures { OnOk result (walked out.new ≡ expr_walk (setting_of known.now) (names_of known.now) inside (Value none (plain_steps (map step_of all.now))) (walked out.old)) }
+    ensures { OnOk result (walked out.new ≡
+        expr_walk (setting_of known.now) (names_of known.now) inside (Value none (plain_steps (map step_of all.now))) (walked out.old)) }
 {
     let Some((first, rest)) = all.split_first() else {
         return push(out, Instr::Nothing);
@@ -136,7 +137,8 @@ fn list(known: &Known, inside: u32, all: &[Expr], out: &mut Walk) -> Result<(), 
 #[cycle(emit)]
 #[tactic(auto, using(bqn_syntax::specs::grammar::TreeEquations::tree_equations, crate::proofs::Walks::walk_laws))]
 fn strand(known: &Known, inside: u32, all: &[Part], out: &mut Walk) -> Result<(), Memory>
-    ensures { OnOk result (walked out.new ≡ strand_walk (setting_of known.now) (names_of known.now) inside (plain_parts (map part_of all.now)) (walked out.old)) }
+    ensures { OnOk result (walked out.new ≡
+        strand_walk (setting_of known.now) (names_of known.now) inside (plain_parts (map part_of all.now)) (walked out.old)) }
 {
     push(out, Instr::List(length(all)?))?;
     let from = out.code.len();
@@ -174,7 +176,8 @@ fn forward_part(known: &Known, inside: u32, x: &Part, out: &mut Walk) -> Result<
 #[cycle(emit)]
 #[tactic(auto, using(bqn_syntax::specs::grammar::TreeEquations::tree_equations, crate::proofs::Walks::walk_laws))]
 fn steps(known: &Known, inside: u32, all: &[Step], out: &mut Walk) -> Result<(), Memory>
-    ensures { OnOk result (walked out.new ≡ steps_walk (setting_of known.now) (names_of known.now) inside (plain_steps (map step_of all.now)) (walked out.old)) }
+    ensures { OnOk result (walked out.new ≡
+        steps_walk (setting_of known.now) (names_of known.now) inside (plain_steps (map step_of all.now)) (walked out.old)) }
 {
     for s in all.iter().rev() {
         step(known, inside, s, out)?;
@@ -253,7 +256,8 @@ fn mod_use(known: &Known, inside: u32, u: &ModUse, out: &mut Walk) -> Result<(),
 #[cycle(emit)]
 #[tactic(auto, using(bqn_syntax::specs::grammar::TreeEquations::tree_equations, crate::proofs::Walks::walk_laws))]
 fn deriveds(known: &Known, inside: u32, all: &[Derived], out: &mut Walk) -> Result<(), Memory>
-    ensures { OnOk result (walked out.new ≡ deriveds_walk (setting_of known.now) (names_of known.now) inside (plain_deriveds (map derived_of all.now)) (walked out.old)) }
+    ensures { OnOk result (walked out.new ≡
+        deriveds_walk (setting_of known.now) (names_of known.now) inside (plain_deriveds (map derived_of all.now)) (walked out.old)) }
 {
     let mut right = all.len();
     for d in all {
@@ -282,14 +286,12 @@ fn block(known: &Known, inside: u32, b: &BlockTree, out: &mut Walk) -> Result<()
 /// The bodies of a block, the first of which has this number.
 #[cycle(emit)]
 #[tactic(auto, using(bqn_syntax::specs::grammar::TreeEquations::tree_equations, crate::proofs::Walks::walk_laws))]
-fn bodies(
-    known: &Known,
-    first: u32,
-    all: &[BodyTree],
-    out: &mut Walk,
-) -> Result<Row<Body>, Memory>
-    ensures made { IfOk result (λ r. r ≡ bodies_code (setting_of known.now) (names_of known.now) (plain_in (plain_bodies (map body_of all.now))) 0 first (onward out.old).at (plain_bodies (map body_of all.now))) }
-    ensures walk { OnOk result (onward out.new ≡ bodies_behind (setting_of known.now) (names_of known.now) first (plain_bodies (map body_of all.now)) (onward out.old)) }
+fn bodies(known: &Known, first: u32, all: &[BodyTree], out: &mut Walk) -> Result<Row<Body>, Memory>
+    ensures made { IfOk result (λ r. r ≡
+        bodies_code (setting_of known.now) (names_of known.now) (plain_in (plain_bodies (map body_of all.now))) 0 first (onward out.old).at
+        (plain_bodies (map body_of all.now))) }
+    ensures walk { OnOk result (onward out.new ≡
+        bodies_behind (setting_of known.now) (names_of known.now) first (plain_bodies (map body_of all.now)) (onward out.old)) }
 {
     let plain = plain_among(all)?;
     let mut made = Vec::new(known.pools.alloc);
@@ -320,8 +322,12 @@ pub fn body(
     all: &[Stmt],
     out: &mut Walk,
 ) -> Result<Body, Memory>
-    ensures made { IfOk result (λ b. b ≡ body_made (setting_of known.now) (names_in (slice_get (names_of known.now) number)) kind (onward out.old).at (body_tree (option_map header_of h.now) (plain_stmts (map stmt_of all.now)))) }
-    ensures walk { OnOk result (onward out.new ≡ body_behind (setting_of known.now) (names_of known.now) number (body_tree (option_map header_of h.now) (plain_stmts (map stmt_of all.now))) (onward out.old)) }
+    ensures made { IfOk result (λ b. b ≡
+        body_made (setting_of known.now) (names_in (slice_get (names_of known.now) number)) kind (onward out.old).at
+        (body_tree (option_map header_of h.now) (plain_stmts (map stmt_of all.now)))) }
+    ensures walk { OnOk result (onward out.new ≡
+        body_behind (setting_of known.now) (names_of known.now) number (body_tree (option_map header_of h.now) (plain_stmts (map stmt_of all.now)))
+        (onward out.old)) }
 {
     let exports = exporting::statements(all);
     let around = mem::replace(&mut out.code, Vec::new(known.pools.alloc));
@@ -349,7 +355,8 @@ fn statements(
     all: &[Stmt],
     out: &mut Walk,
 ) -> Result<(), Memory>
-    ensures { OnOk result (onward out.new ≡ stmts_behind (setting_of known.now) (names_of known.now) inside false exports (plain_stmts (map stmt_of all.now)) (onward out.old)) }
+    ensures { OnOk result (onward out.new ≡
+        stmts_behind (setting_of known.now) (names_of known.now) inside false exports (plain_stmts (map stmt_of all.now)) (onward out.old)) }
 {
     let mut left = false;
     for s in all {

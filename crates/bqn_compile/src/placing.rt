@@ -219,13 +219,13 @@ fn step(lead: Place, s: &Step, out: &mut Vec<Place>) -> Result<Option<Place>, Me
 {
     match s {
         Step::Apply { function, left } => {
-            let own = derived(lead, function, out)?;
+            let called = derived(lead, function, out)?;
             let first = match left {
                 None => None,
                 Some(w) => part(lead, w, out)?,
             };
-            push(out, or_else(lead, own))?;
-            Ok(or_next(first, own))
+            push(out, or_else(lead, called))?;
+            Ok(or_next(first, called))
         }
         Step::Assign { target, arrow: _ } => {
             let own = leads::pattern(target);
@@ -454,7 +454,8 @@ pub fn body(
     h: &Option<Header>,
     all: &[Stmt],
 ) -> Result<Vec<Place>, Memory>
-    ensures { IfOk result (λ out. out.items ≡ placing.header_places (option_map header_of h.now) ++ placing.rest_places exports false start (plain_stmts (map stmt_of all.now))) }
+    ensures { IfOk result (λ out. out.items ≡
+        placing.header_places (option_map header_of h.now) ++ placing.rest_places exports false start (plain_stmts (map stmt_of all.now))) }
 {
     let mut out = Vec::with_capacity(alloc, many)?;
     header(h, &mut out)?;
