@@ -25,5 +25,14 @@ first-backward (s ∷ ss) =
     ∙ (λ i. or_next (first-backward ss i) (next-none (step_lead (step_of s)) i))
 
 -- one step further
-pub first-next : (xs : List CodeStep) (n : ℕ) (s : CodeStep) → n < length xs → s ≡ get_or xs n s → first_lead (drop n xs) ≡ or_next (step_lead (step_of s)) (first_lead (drop (n + 1) xs))
+first-next : (xs : List CodeStep) (n : ℕ) (s : CodeStep) → n < length xs → s ≡ get_or xs n s → first_lead (drop n xs) ≡ or_next (step_lead (step_of s)) (first_lead (drop (n + 1) xs))
 first-next xs n s inside is = ap first_lead (drop-next xs n s inside is)
+
+pub lead-found : (xs : List CodeStep) (n : ℕ) (s : CodeStep) (p : Place) → n < length xs → s ≡ get_or xs n s → Some p ≡ step_lead (step_of s) → Some p ≡ first_lead (drop n xs)
+lead-found xs n s p inside is e = ap (λ (q : Option Place). or_next q (first_lead (drop (n + 1) xs))) e ∙ sym (first-next xs n s inside is)
+
+pub lead-after : (xs : List CodeStep) (n m : ℕ) (s : CodeStep) → n < length xs → s ≡ get_or xs n s → None ≡ step_lead (step_of s) → m ≡ n + 1 → first_lead (drop m xs) ≡ first_lead (drop n xs)
+lead-after xs n m s inside is e q =
+    ap (λ (k : ℕ). first_lead (drop k xs)) q
+    ∙ ap (λ (o : Option Place). or_next o (first_lead (drop (n + 1) xs))) e
+    ∙ sym (first-next xs n s inside is)

@@ -23,7 +23,7 @@ use Rattle.bqn_compile.proofs.Turning.{expr-turned, part-turned, list-turned, st
 use Rattle.bqn_compile.proofs.Bodies.{body-code-made, body-walk-made, block-made}
 use Rattle.bqn_compile.proofs.Loops.{on_ok, many-exprs, many-parts, many-bodies, empty, drop-next, deriveds-step, stmts-step, bodies-walk, bodies-made}
 use Rattle.bqn_compile.proofs.Unstarted.{unstarted-Apply, unstarted-Assign, unstarted-Modify, unstarted-none}
-use Rattle.bqn_compile.proofs.verified.Placing.{places_made}
+use Rattle.bqn_compile.proofs.verified.places.Placing.{places_made}
 use Rattle.bqn_compile.proofs.emitting.+emit.Goals as goal
 
 pub forward-returns : goal.forward-returns

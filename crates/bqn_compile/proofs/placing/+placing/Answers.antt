@@ -39,18 +39,16 @@ deriveds-returns-clause-own t c =
     ∙ ap (λ (ds : List Derived). deriveds_lead (deriveds ds))
     (all-yielded derived_of c.args.all.now c.loop-d.yielded (YieldsList-end (YieldsList-from_rev_slice c.args.all.now cc) c.loop-d.yielded _ c.loop-d.yielded_by _ _ c.in-None.is c.next.ensures.steps).0)
 
-pub unstarted-returns-in_ok-push-in-Modify-3 : goal.unstarted-returns-in_ok-push-in-Modify-3
-unstarted-returns-in_ok-push-in-Modify-3 t c =
-    on_ok c.steps.result _ _ _ c.steps.ensures
-    (unstarted-Modify c.args.lead c.args.all.now c.in-Some.rest.now c.in-Some.first.now c.args.out.now.items c.push-in-Modify.new.out.items c.in-Modify.target c.in-Modify.function c.derived.new.out.items c.push-in-Modify-2.new.out.items c.push-in-Modify-3.new.out.items c.or_else.result
-    c.in-Some.ensures.cases.0 c.in-Modify.is c.in_ok-push-in-Modify.ensures c.in_ok-derived-in-Modify.ensures (c.or_else.ensures ∙ ap (or_else c.args.lead) c.derived-in-Modify.ensures) c.in_ok-push-in-Modify-2.ensures c.in_ok-push-in-Modify-3.ensures)
-
 pub unstarted-returns-in_ok-push-in-Apply : goal.unstarted-returns-in_ok-push-in-Apply
-unstarted-returns-in_ok-push-in-Apply t c =
-    on_ok c.steps-in-Apply.result _ _ _ c.steps-in-Apply.ensures
-    (unstarted-Apply c.args.lead c.args.all.now c.in-Some.rest.now c.in-Some.first.now c.args.out.now.items c.push-in-Apply.new.out.items c.in-Apply.function c.in-Apply.left c.in-Some.ensures.cases.0 c.in-Apply.is c.in_ok-push-in-Apply.ensures)
+unstarted-returns-in_ok-push-in-Apply t c = record {
+  places = on_ok c.steps-in-Apply.result _ _ _ c.steps-in-Apply.ensures.places
+      (unstarted-Apply c.args.lead c.args.all.now c.in-Some.rest.now c.in-Some.first.now c.args.out.now.items c.push-in-Apply.new.out.items c.in-Apply.function c.in-Apply.left c.in-Some.ensures.cases.0 c.in-Apply.is c.in_ok-push-in-Apply.ensures);
+  own = c.steps-in-Apply.ensures.own;
+}
 
 pub unstarted-returns-in_ok-push-in-Assign : goal.unstarted-returns-in_ok-push-in-Assign
-unstarted-returns-in_ok-push-in-Assign t c =
-    on_ok c.steps-in-Assign.result _ _ _ c.steps-in-Assign.ensures
-    (unstarted-Assign c.args.lead c.args.all.now c.in-Some.rest.now c.in-Some.first.now c.args.out.now.items c.push-in-Assign.new.out.items c.in-Assign.target c.in-Assign.arrow c.in-Some.ensures.cases.0 c.in-Assign.is c.in_ok-push-in-Assign.ensures)
+unstarted-returns-in_ok-push-in-Assign t c = record {
+  places = on_ok c.steps-in-Assign.result _ _ _ c.steps-in-Assign.ensures.places
+      (unstarted-Assign c.args.lead c.args.all.now c.in-Some.rest.now c.in-Some.first.now c.args.out.now.items c.push-in-Assign.new.out.items c.in-Assign.target c.in-Assign.arrow c.in-Some.ensures.cases.0 c.in-Assign.is c.in_ok-push-in-Assign.ensures);
+  own = c.steps-in-Assign.ensures.own;
+}
