@@ -1,4 +1,4 @@
-use Rattle.std.proofs.Common.{length, reverse, sym, ◌∙◌}
+use Rattle.std.proofs.Common.{[], ◌∷◌, length, length-append, reverse, sym, ◌∙◌}
 use Rattle.std.proofs.lemmas.Iterator.Adapters.{YieldsList-from_rev_slice}
 use Rattle.std.proofs.lemmas.Iterator.Consumers.{YieldsList-turn}
 use Rattle.bqn_compile.proofs.StepLeads.{first-backward, lead-found, lead-after}
@@ -20,5 +20,5 @@ steps-loop-s-preserved t c =
     lead-after (reverse c.args.all.now) (length c.loop-s.yielded) _ c.in-Some.s.now
     (YieldsList-turn (YieldsList-from_rev_slice c.args.all.now cc) c.loop-s.yielded _ c.loop-s.yielded_by _ _ c.in-Some.s c.in-Some.is c.next.ensures.steps).0
     (YieldsList-turn (YieldsList-from_rev_slice c.args.all.now cc) c.loop-s.yielded _ c.loop-s.yielded_by _ _ c.in-Some.s c.in-Some.is c.next.ensures.steps).1
-    ? ?
+    (sym c.in_default.is ∙ c.step.ensures) (length-append c.loop-s.yielded (c.in-Some.s ∷ []))
     ∙ c.loop-s.invariant
