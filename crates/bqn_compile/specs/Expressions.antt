@@ -12,7 +12,7 @@ use Rattle.bqn_syntax.specs.declared.tree.Arrow.TheVariants as arrow
 use Rattle.bqn_syntax.specs.declared.tree.Class.{Class}
 use Rattle.bqn_syntax.specs.declared.tree.Class.TheVariants as class
 use Rattle.bqn_syntax.specs.grammar.Trees.{Pattern, Name, Expr, Value, Train, Modifier, Use, One, Two, Part, Leaf, Elements, Merge, Paren, Block, Field, Strand, Nothing, Step, Apply, Assign, Modify, block, Derived, derived, none, some, Exprs, no_exprs, and_exprs, Uses, no_uses, and_uses, Parts, no_parts, and_parts, Steps, no_steps, and_steps, Deriveds, no_deriveds, and_deriveds}
-use Rattle.bqn_syntax.specs.blocks.Leads.{or_else, pattern_lead, part_lead, derived_lead, deriveds_lead, exprs_lead, parts_lead, modifier_lead}
+use Rattle.bqn_syntax.specs.blocks.Leads.{or_else, pattern_lead, derived_lead, deriveds_lead, exprs_lead, parts_lead, modifier_lead}
 use Rattle.bqn_syntax.specs.scope.Scope as scope
 use Rattle.bqn_syntax.specs.scope.Scope.{Seen, name_of, same_name, system_names}
 use Rattle.bqn_code.specs.declared.constant.Const.{Const}

@@ -1,5 +1,5 @@
 -- The places of the instructions of a body: they do not depend on what comes before it, nor on pools.
-use Rattle.std.specs.Prelude.{ℕ, Bool, true, false, List, [], ◌∷◌, ◌++◌, map, Option, Some, None}
+use Rattle.std.specs.Prelude.{Bool, true, false, List, [], ◌∷◌, ◌++◌, Option, Some, None}
 use Rattle.bqn_base.specs.declared.place.Place.{Place}
 use Rattle.bqn_syntax.specs.declared.token.Kind.{Kind}
 use Rattle.bqn_syntax.specs.declared.token.Kind.TheVariants as kind

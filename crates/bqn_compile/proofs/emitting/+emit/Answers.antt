@@ -16,7 +16,7 @@ use Rattle.bqn_code.specs.declared.instr.Instr.TheVariants as i
 use Rattle.bqn_compile.specs.declared.count.Count.{Count}
 use Rattle.bqn_compile.specs.Blocks.{bodies_code}
 use Rattle.bqn_compile.specs.Bodies.{kind_code}
-use Rattle.bqn_compile.specs.Walking.{setting_of, names_of, walked, onward, push, skip, append, ending, steps_walk, exprs_behind, parts_behind, stmts_behind, bodies_behind, block_walk}
+use Rattle.bqn_compile.specs.Walking.{setting_of, names_of, walked, onward, push, skip, steps_walk, exprs_behind, parts_behind, stmts_behind, bodies_behind, block_walk}
 use Rattle.bqn_compile.proofs.Yielded.{all-yielded}
 use Rattle.bqn_compile.proofs.Onward.{stmts-end}
 use Rattle.bqn_compile.proofs.Turning.{expr-turned, part-turned, list-turned, strand-turned}

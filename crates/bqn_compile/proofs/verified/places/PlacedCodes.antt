@@ -1,19 +1,18 @@
 -- The instructions of a body and their places are the two sides of one list.
-use Rattle.std.proofs.Common.{◌≡◌, ℕ, suc, Bool, true, false, List, [], ◌∷◌, ◌++◌, length, map, Option, Some, None, refl, sym, ap, ◌∙◌}
+use Rattle.std.proofs.Common.{◌≡◌, ℕ, Bool, true, false, List, [], ◌∷◌, ◌++◌, length, map, Option, Some, None, refl, sym, ap, ◌∙◌}
 use Rattle.std.proofs.lemmas.List.{map-append, length-map}
 use Rattle.bqn_base.specs.declared.place.Place.{Place}
 use Rattle.bqn_syntax.specs.declared.token.Kind.{Kind}
 use Rattle.bqn_syntax.specs.declared.token.Kind.TheVariants as kind
 use Rattle.bqn_syntax.specs.declared.token.Token.{Token}
 use Rattle.bqn_syntax.specs.declared.tree.Arrow.{Arrow}
-use Rattle.bqn_syntax.specs.blocks.Leads.{or_else, derived_lead, deriveds_lead, modifier_lead, stmt_lead, header_lead, at_start}
+use Rattle.bqn_syntax.specs.blocks.Leads.{derived_lead, deriveds_lead, stmt_lead, header_lead, at_start}
 use Rattle.bqn_syntax.specs.grammar.Trees.{Pattern, Name, Skip, Literal, ListPattern, StrandPattern, Header, Expr, Value, Train, Modifier, Use, One, Two, Part, Leaf, Elements, Merge, Paren, Block as Braces, Field, Strand, Nothing, Step, Apply, Assign, Modify, Eval, Predicate, Export, block, body, Derived, derived, none, some, Exprs, no_exprs, and_exprs, Uses, no_uses, and_uses, Parts, no_parts, and_parts, Steps, no_steps, and_steps, Stmts, no_stmts, and_stmts, Deriveds, no_deriveds, and_deriveds}
 use Rattle.bqn_syntax.specs.grammar.Classes.{Calls}
 use Rattle.bqn_syntax.specs.blocks.Exporting.{stmts_export}
 use Rattle.bqn_syntax.specs.scope.Scope as scope
 use Rattle.bqn_syntax.specs.scope.Scope.{Seen}
 use Rattle.bqn_syntax.specs.scope.Bodies.{BodyNames}
-use Rattle.bqn_syntax.specs.blocks.Counting as counting
 use Rattle.bqn_code.specs.declared.instr.Instr.{Instr}
 use Rattle.bqn_code.specs.declared.instr.Instr.TheVariants as i
 use Rattle.bqn_compile.specs.declared.count.Count.{Count}
@@ -21,7 +20,7 @@ use Rattle.bqn_compile.specs.declared.read.Read.{Read}
 use Rattle.bqn_compile.specs.declared.read.Read.TheVariants as read
 use Rattle.bqn_compile.specs.Counting.{past, in_token, in_targets, in_argument, in_operand, in_part, in_steps, in_derived, in_use, in_expr, in_header, in_stmt}
 use Rattle.bqn_compile.specs.Pools.{seen_at}
-use Rattle.bqn_compile.specs.Expressions.{Setting, at_lead, alone, parts_read, put_fields, put_targets, put_fork, put_atop, put_derives, put_expr, put_part, put_steps, put_step, put_derived, put_uses, put_use, put_deriveds, put_exprs, put_parts}
+use Rattle.bqn_compile.specs.Expressions.{Setting, at_lead, parts_read, put_fields, put_targets, put_fork, put_atop, put_derives, put_expr, put_part, put_steps, put_step, put_derived, put_uses, put_use, put_deriveds, put_exprs, put_parts}
 use Rattle.bqn_compile.specs.Bodies.{put_named_argument, own_instr, put_name, put_argument, put_operand, put_header_inner, put_end, put_last, put_header, put_stmts, put_body, body_code}
 
 -- ---- what is made of each instruction and lead, with something done to it

@@ -1,5 +1,5 @@
 -- The tests of instructions that speak of the pools pass what a tree of a source has.
-use Rattle.std.proofs.Common.{◌≡◌, is_some, ◌<◌, ◌+◌, ◌∙◌, ℕ, Bool, true, false, List, [], ◌∷◌, length, nat_lt, position, Option, Some, None, arith, refl, ap, subst}
+use Rattle.std.proofs.Common.{◌≡◌, ◌<◌, ◌+◌, ◌∙◌, ℕ, Bool, true, false, List, [], ◌∷◌, length, nat_lt, position, Option, Some, None, arith, refl, ap, subst}
 use Rattle.std.specs.List.{list_all}
 use Rattle.std.proofs.lemmas.Bool.{lt-ltb}
 use Rattle.std.proofs.lemmas.List.Quantifiers.{position-Some}
