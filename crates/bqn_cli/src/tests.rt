@@ -4,6 +4,7 @@ use bqn_io::{MemoryFiles, MemorySink, MemorySource};
 use std::alloc::{AllocError, Global};
 use std::test::Fail;
 
+mod codes;
 mod grammar;
 mod scope;
 

@@ -127,7 +127,8 @@ leaf_name_is_there code p = true
 
 abbrev pub names_are_there : Code → Bool
 names_are_there code =
-    every_instr (λ body i. instr_name_is_there code i) code && (list_all (leaves (leaf_name_is_there code)) code.patterns && every_body (λ b. list_all (λ e. has_name code e.0) b.body.exports) code)
+    every_instr (λ body i. instr_name_is_there code i) code
+    && (list_all (leaves (leaf_name_is_there code)) code.patterns && every_body (λ b. list_all (λ e. has_name code e.0) b.body.exports) code)
 
 abbrev pub instr_pattern_is_there : Code → Instr → Bool
 instr_pattern_is_there code (instr.Bind k) = has_pattern code k

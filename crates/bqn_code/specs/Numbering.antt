@@ -63,7 +63,10 @@ abbrev pub behind : Table → Code → Placed
 behind t code = record { code = code; blocks = length t.blocks - 1; bodies = length t.bodies - 1 }
 
 abbrev pub with_code : Table → Code → Table
-with_code t code = record { blocks = joined t.blocks (placed_blocks (behind t code) 0 code.blocks); bodies = joined t.bodies (placed_bodies (behind t code) code.blocks) }
+with_code t code = record {
+  blocks = joined t.blocks (placed_blocks (behind t code) 0 code.blocks);
+  bodies = joined t.bodies (placed_bodies (behind t code) code.blocks);
+}
 
 abbrev pub with_codes : Table → List Code → Table
 with_codes t [] = t

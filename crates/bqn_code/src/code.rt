@@ -1,3 +1,6 @@
+ghost use Rattle.std.specs.Prelude.{IsTrue};
+ghost use Rattle.bqn_code.specs.Places.{have_places};
+
 use crate::constant::Const;
 use crate::instr::Instr;
 use crate::pattern::PatternCode;
@@ -40,4 +43,5 @@ pub struct Code {
     pub constants: Row<Const>,
     pub patterns: Row<PatternCode>,
     pub blocks: Row<Block>,
+    ghost places_fit: { IsTrue (have_places placed blocks) },
 }

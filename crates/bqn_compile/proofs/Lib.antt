@@ -14,5 +14,6 @@ pub mod Reading
 pub mod Unstarted
 pub mod Sources
 pub mod Placings
+pub mod StepLeads
 mod Samples
 mod BodySamples

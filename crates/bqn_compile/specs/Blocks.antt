@@ -16,7 +16,8 @@ module _ (g : Setting) (names : List BodyNames) where
   abbrev pub bodies_code : (plain before number : ℕ) → Count → Bodies → List Body
   bodies_code plain before number c no_bodies = []
   bodies_code plain before number c (and_bodies b bs) =
-      body_code g (names_in (slice_get names number)) (calls_of plain before b) c b ∷ bodies_code plain (and_plain b before) (suc number) (past c (in_body b)) bs
+      body_code g (names_in (slice_get names number)) (calls_of plain before b) c b
+      ∷ bodies_code plain (and_plain b before) (suc number) (past c (in_body b)) bs
 
   -- the blocks in a part of the body with this number, where so much comes before
   abbrev mutual
@@ -38,7 +39,8 @@ module _ (g : Setting) (names : List BodyNames) where
     -- a block and its bodies come before what is inside it
     pub blocks_from : (inside : ℕ) → BlockTree → Count → List Block
     blocks_from inside (block place kind bs) c =
-        record { class = kind; parent = inside; bodies = bodies_code (plain_in bs) 0 c.bodies (past c (one_block (how_many bs))) bs } ∷ bodies_blocks c.bodies bs (past c (one_block (how_many bs)))
+        record { class = kind; parent = inside; bodies = bodies_code (plain_in bs) 0 c.bodies (past c (one_block (how_many bs))) bs }
+        ∷ bodies_blocks c.bodies bs (past c (one_block (how_many bs)))
 
     pub maybe_blocks : (inside : ℕ) → MaybePart → Count → List Block
     maybe_blocks inside none c = []

@@ -81,8 +81,14 @@ module _ {A : Type 0} (put_in : Place → Option Place → Instr → A) where
   abbrev pub put_stmts : Setting → (exports : Bool) → (Instr → A) → Count → Stmts → List A
   put_stmts g exports last c no_stmts = put_end last exports
   put_stmts g exports last c (and_stmts (Eval e) no_stmts) = put_expr (put_in (stmt_lead (Eval e))) g c e ++ put_last (put_in (stmt_lead (Eval e)) None) exports
-  put_stmts g exports last c (and_stmts (Eval e) (and_stmts s ss)) = put_expr (put_in (stmt_lead (Eval e))) g c e ++ put_in (stmt_lead (Eval e)) None i.Pop ∷ put_stmts g exports (put_in (stmt_lead (Eval e)) None) (past c (in_stmt (Eval e))) (and_stmts s ss)
-  put_stmts g exports last c (and_stmts (Predicate e) ss) = put_expr (put_in (stmt_lead (Predicate e))) g c e ++ put_in (stmt_lead (Predicate e)) None i.Check ∷ put_stmts g exports (put_in (stmt_lead (Predicate e)) None) (past c (in_stmt (Predicate e))) ss
+  put_stmts g exports last c (and_stmts (Eval e) (and_stmts s ss)) =
+      put_expr (put_in (stmt_lead (Eval e))) g c e
+      ++ put_in (stmt_lead (Eval e)) None i.Pop
+      ∷ put_stmts g exports (put_in (stmt_lead (Eval e)) None) (past c (in_stmt (Eval e))) (and_stmts s ss)
+  put_stmts g exports last c (and_stmts (Predicate e) ss) =
+      put_expr (put_in (stmt_lead (Predicate e))) g c e
+      ++ put_in (stmt_lead (Predicate e)) None i.Check
+      ∷ put_stmts g exports (put_in (stmt_lead (Predicate e)) None) (past c (in_stmt (Predicate e))) ss
   put_stmts g exports last c (and_stmts (Export q) ss) = put_stmts g exports (put_in (stmt_lead (Export q)) None) c ss
 
   abbrev pub put_body : Setting → Count → Option Header → Stmts → List A

@@ -73,7 +73,8 @@ in_argument (Some q) = in_pattern q
 
 abbrev pub in_header : Option Header → Count
 in_header None = nothing
-in_header (Some h) = past (in_argument h.left) (past (in_operand h.left_operand) (past (in_token h.own) (past (in_operand h.right_operand) (in_argument h.right))))
+in_header (Some h) =
+    past (in_argument h.left) (past (in_operand h.left_operand) (past (in_token h.own) (past (in_operand h.right_operand) (in_argument h.right))))
 
 -- ---- expressions and blocks
 

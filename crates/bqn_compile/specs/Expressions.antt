@@ -12,7 +12,7 @@ use Rattle.bqn_syntax.specs.declared.tree.Arrow.TheVariants as arrow
 use Rattle.bqn_syntax.specs.declared.tree.Class.{Class}
 use Rattle.bqn_syntax.specs.declared.tree.Class.TheVariants as class
 use Rattle.bqn_syntax.specs.grammar.Trees.{Pattern, Name, Expr, Value, Train, Modifier, Use, One, Two, Part, Leaf, Elements, Merge, Paren, Block, Field, Strand, Nothing, Step, Apply, Assign, Modify, block, Derived, derived, none, some, Exprs, no_exprs, and_exprs, Uses, no_uses, and_uses, Parts, no_parts, and_parts, Steps, no_steps, and_steps, Deriveds, no_deriveds, and_deriveds}
-use Rattle.bqn_syntax.specs.blocks.Leads.{or_else, pattern_lead, part_lead, derived_lead, deriveds_lead, exprs_lead, parts_lead, modifier_lead}
+use Rattle.bqn_syntax.specs.blocks.Leads.{or_else, pattern_lead, derived_lead, deriveds_lead, exprs_lead, parts_lead, modifier_lead}
 use Rattle.bqn_syntax.specs.scope.Scope as scope
 use Rattle.bqn_syntax.specs.scope.Scope.{Seen, name_of, same_name, system_names}
 use Rattle.bqn_code.specs.declared.constant.Const.{Const}
@@ -49,9 +49,12 @@ special_instr special.RightOperand = i.RightOperand
 special_instr special.Modifier = i.Modifier
 
 -- the system values have the codes behind the primitives
+abbrev pub first_system : ℕ
+first_system = 64
+
 abbrev pub system_instr : Option ℕ → Instr
 system_instr None = i.Nothing
-system_instr (Some n) = i.Given (64 + n)
+system_instr (Some n) = i.Given (first_system + n)
 
 abbrev pub literal_instr : List Const → Option Const → Instr
 literal_instr constants None = i.Nothing
@@ -89,6 +92,10 @@ parts_read no_deriveds = read.No
 parts_read (and_deriveds d ds) = and_one (parts_read ds)
 
 -- ---- lists
+
+-- the code of `>`, which merges a list
+abbrev pub merge : ℕ
+merge = 13
 
 abbrev pub how_many_exprs : Exprs → ℕ
 how_many_exprs no_exprs = 0
@@ -135,16 +142,22 @@ module _ {A : Type 0} (put : Option Place → Instr → A) where
       pub put_expr : Count → Expr → List A
       put_expr c (Value none (and_steps (Modify t d) ss)) =
           let at : Count = past c (in_steps ss) in
-          put (Some t.place) (load (seen_at g.uses at.uses)) ∷ put_derived (past at (in_token t)) d ++ put (derived_lead d) i.Call1 ∷ put (Some t.place) (store arrow.Change (seen_at g.uses at.uses)) ∷ put_steps c ss
+          put (Some t.place) (load (seen_at g.uses at.uses))
+          ∷ put_derived (past at (in_token t)) d
+          ++ put (derived_lead d) i.Call1
+          ∷ put (Some t.place) (store arrow.Change (seen_at g.uses at.uses))
+          ∷ put_steps c ss
       put_expr c (Value none ss) = put None i.Nothing ∷ put_steps c ss
       put_expr c (Value (some x) ss) = put_part (past c (in_steps ss)) x ++ put_steps c ss
-      put_expr c (Train targets ds) = put_deriveds (past c (in_targets targets)) ds ++ put_atop (put (deriveds_lead ds)) (parts_read ds) ++ put_targets g c targets
+      put_expr c (Train targets ds) =
+          put_deriveds (past c (in_targets targets)) ds ++ put_atop (put (deriveds_lead ds)) (parts_read ds) ++ put_targets g c targets
       put_expr c (Modifier targets x) = put_part (past c (in_targets targets)) x ++ put_targets g c targets
 
       pub put_part : Count → Part → List A
       put_part c (Leaf t) = put (Some t.place) (leaf_instr g c.uses t.kind) ∷ []
       put_part c (Elements es) = put_exprs c es ++ put (exprs_lead es) (i.List (how_many_exprs es)) ∷ []
-      put_part c (Merge es) = put_exprs c es ++ put (exprs_lead es) (i.List (how_many_exprs es)) ∷ put (exprs_lead es) (i.Given 13) ∷ put (exprs_lead es) i.Call1 ∷ []
+      put_part c (Merge es) =
+          put_exprs c es ++ put (exprs_lead es) (i.List (how_many_exprs es)) ∷ put (exprs_lead es) (i.Given merge) ∷ put (exprs_lead es) i.Call1 ∷ []
       put_part c (Paren e) = put_expr c e
       put_part c (Block (block place kind bs)) = put (Some place) (block_instr kind c.blocks) ∷ []
       put_part c (Field base names) = put_part c base ++ put_fields g.names names
@@ -160,7 +173,11 @@ module _ {A : Type 0} (put : Option Place → Instr → A) where
       put_step c (Apply d none) = put_derived c d ++ put (derived_lead d) i.Call1 ∷ []
       put_step c (Apply d (some w)) = put_derived (past c (in_part w)) d ++ put_part c w ++ put (derived_lead d) i.Call2 ∷ []
       put_step c (Assign q a) = put (pattern_lead q) (target_instr g c q a) ∷ []
-      put_step c (Modify t d) = put_derived (past c (in_token t)) d ++ put (Some t.place) (load (seen_at g.uses c.uses)) ∷ put (derived_lead d) i.Call2 ∷ put (Some t.place) (store arrow.Change (seen_at g.uses c.uses)) ∷ []
+      put_step c (Modify t d) =
+          put_derived (past c (in_token t)) d
+          ++ put (Some t.place) (load (seen_at g.uses c.uses))
+          ∷ put (derived_lead d) i.Call2
+          ∷ put (Some t.place) (store arrow.Change (seen_at g.uses c.uses)) ∷ []
 
       -- all modifiers from the last, which is the outermost, then the part, and what is made of them
       pub put_derived : Count → Derived → List A

@@ -118,16 +118,16 @@ with_pattern uses how q k g = Ok (record g { patterns = g.patterns ++ pattern_co
 
 -- exported names without a value
 abbrev mutual
-  pub shown : tree.Pattern → Gathers
-  shown (Name t) = pooled (name_of t)
-  shown (Skip place) = done
-  shown (Literal t) = done
-  shown (ListPattern qs) = all_shown qs
-  shown (StrandPattern qs) = all_shown qs
+  pub exported : tree.Pattern → Gathers
+  exported (Name t) = pooled (name_of t)
+  exported (Skip place) = done
+  exported (Literal t) = done
+  exported (ListPattern qs) = all_exported qs
+  exported (StrandPattern qs) = all_exported qs
 
-  pub all_shown : Patterns → Gathers
-  all_shown no_patterns = done
-  all_shown (and_patterns q qs) = shown q ▹ all_shown qs
+  pub all_exported : Patterns → Gathers
+  all_exported no_patterns = done
+  all_exported (and_patterns q qs) = exported q ▹ all_exported qs
 
 module _ (m : Most) (uses : List scope.Use) where
   abbrev pub token : How → Token → Gathers
@@ -240,7 +240,7 @@ module _ (m : Most) (uses : List scope.Use) where
     pub stmt : Stmt → Gathers
     stmt (Eval e) = expr e
     stmt (Predicate e) = expr e
-    stmt (Export q) = shown q
+    stmt (Export q) = exported q
 
     pub bodies : Bodies → Gathers
     bodies no_bodies = done

@@ -24,4 +24,5 @@ TranslatedCodeIsVerified = (outer : List (List ℕ)) (ss : Stmts) (tokens : List
 
 -- the blocks and names of the code of a tree are at most one more than the tokens that spell it
 abbrev pub BlocksAndNamesAreFew : Type 0
-BlocksAndNamesAreFew = (ss : Stmts) (tokens : List Token) (r : Resolution) (code : Code) → Spells ss tokens → translated r ss ≡ Ok code → length code.blocks + length code.names ≤ suc (length tokens)
+BlocksAndNamesAreFew = (ss : Stmts) (tokens : List Token) (r : Resolution) (code : Code) →
+    Spells ss tokens → translated r ss ≡ Ok code → length code.blocks + length code.names ≤ suc (length tokens)

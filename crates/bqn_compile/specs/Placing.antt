@@ -1,5 +1,5 @@
 -- The places of the instructions of a body: they do not depend on what comes before it, nor on pools.
-use Rattle.std.specs.Prelude.{ℕ, Bool, true, false, List, [], ◌∷◌, ◌++◌, map, Option, Some, None}
+use Rattle.std.specs.Prelude.{Bool, true, false, List, [], ◌∷◌, ◌++◌, Option, Some, None}
 use Rattle.bqn_base.specs.declared.place.Place.{Place}
 use Rattle.bqn_syntax.specs.declared.token.Kind.{Kind}
 use Rattle.bqn_syntax.specs.declared.token.Kind.TheVariants as kind
@@ -101,7 +101,12 @@ operand_places (Some t) = name_places t.place t.kind
 
 abbrev pub header_places : Option Header → List Place
 header_places None = []
-header_places (Some h) = argument_places (header_lead h) h.left ++ operand_places h.left_operand ++ name_places h.own.place h.own.kind ++ operand_places h.right_operand ++ argument_places (header_lead h) h.right
+header_places (Some h) =
+    argument_places (header_lead h) h.left
+    ++ operand_places h.left_operand
+    ++ name_places h.own.place h.own.kind
+    ++ operand_places h.right_operand
+    ++ argument_places (header_lead h) h.right
 
 -- ---- statements
 
@@ -117,8 +122,10 @@ last_places false p = p ∷ []
 abbrev pub stmts_places : (exports : Bool) → Place → Stmts → List Place
 stmts_places exports l no_stmts = end_places exports l
 stmts_places exports l (and_stmts (Eval e) no_stmts) = expr_places (stmt_lead (Eval e)) e ++ last_places exports (stmt_lead (Eval e))
-stmts_places exports l (and_stmts (Eval e) (and_stmts s ss)) = expr_places (stmt_lead (Eval e)) e ++ stmt_lead (Eval e) ∷ stmts_places exports (stmt_lead (Eval e)) (and_stmts s ss)
-stmts_places exports l (and_stmts (Predicate e) ss) = expr_places (stmt_lead (Predicate e)) e ++ stmt_lead (Predicate e) ∷ stmts_places exports (stmt_lead (Predicate e)) ss
+stmts_places exports l (and_stmts (Eval e) (and_stmts s ss)) =
+    expr_places (stmt_lead (Eval e)) e ++ stmt_lead (Eval e) ∷ stmts_places exports (stmt_lead (Eval e)) (and_stmts s ss)
+stmts_places exports l (and_stmts (Predicate e) ss) =
+    expr_places (stmt_lead (Predicate e)) e ++ stmt_lead (Predicate e) ∷ stmts_places exports (stmt_lead (Predicate e)) ss
 stmts_places exports l (and_stmts (Export q) ss) = stmts_places exports (stmt_lead (Export q)) ss
 
 abbrev pub body_places : Option Header → Stmts → List Place

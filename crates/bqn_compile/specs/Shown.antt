@@ -35,7 +35,13 @@ abbrev pub constants_shown : List Key → List Const
 constants_shown keys = map key_shown keys
 
 abbrev pub gathered_shown : Pools → Gathered
-gathered_shown p = record { constants = constants_shown p.constants.keys; names = p.names; patterns = map pattern_of p.patterns.items; uses = p.uses; blocks = p.blocks }
+gathered_shown p = record {
+  constants = constants_shown p.constants.keys;
+  names = p.names;
+  patterns = map pattern_of p.patterns.items;
+  uses = p.uses;
+  blocks = p.blocks;
+}
 
 abbrev pub setting_shown : List Use → Pools → Setting
 setting_shown uses p = record { uses = map use_shown uses; constants = constants_shown p.constants.keys; names = p.names }

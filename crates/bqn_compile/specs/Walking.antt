@@ -8,6 +8,7 @@ use Rattle.bqn_syntax.specs.declared.tree.Arrow.{Arrow}
 use Rattle.bqn_syntax.specs.declared.tree.Arrow.TheVariants as arrow
 use Rattle.bqn_syntax.specs.grammar.Trees.{Pattern, Name, Header, Expr, Value, Train, Modifier, Use, One, Two, Part, Leaf, Elements, Merge, Paren, Block as Braces, Field, Strand, Nothing, Step, Apply, Assign, Modify, Stmt, Eval, Predicate, Export, BlockTree, BodyTree, body, Derived, derived, none, some, Exprs, no_exprs, and_exprs, Uses, no_uses, and_uses, Parts, no_parts, and_parts, Steps, no_steps, and_steps, Stmts, no_stmts, and_stmts, Bodies, no_bodies, and_bodies, Deriveds, no_deriveds, and_deriveds}
 use Rattle.bqn_syntax.specs.blocks.Exporting.{stmts_export}
+use Rattle.bqn_syntax.specs.blocks.Leads.{or_else}
 use Rattle.bqn_syntax.specs.scope.Bodies.{BodyNames}
 use Rattle.bqn_code.specs.declared.instr.Instr.{Instr}
 use Rattle.bqn_code.specs.declared.instr.Instr.TheVariants as i
@@ -21,8 +22,8 @@ use Rattle.bqn_compile.specs.declared.walk.Known.{Known}
 use Rattle.bqn_compile.specs.declared.walk.Walk.{Walk}
 use Rattle.bqn_compile.specs.Counting.{past, in_token, in_operand, in_argument, in_header, in_target, in_expr, in_part, in_exprs, in_parts, in_block, in_stmt, in_stmts, in_body}
 use Rattle.bqn_compile.specs.Pools.{seen_at}
-use Rattle.bqn_compile.specs.Expressions.{Setting, load, store, leaf_instr, target_instr, fields_code, and_one, parts_read, fork_code, atop_code, derives, how_many_exprs, how_many_parts, expr_code, part_code, exprs_code, parts_code}
-use Rattle.bqn_compile.specs.Bodies.{argument_code, name_code, operand_code, header_code, last_code, end_code, stmts_code, exports_code}
+use Rattle.bqn_compile.specs.Expressions.{Setting, load, store, merge, leaf_instr, target_instr, fields_code, and_one, parts_read, fork_code, atop_code, derives, how_many_exprs, how_many_parts, expr_code, part_code, exprs_code, parts_code}
+use Rattle.bqn_compile.specs.Bodies.{argument_code, name_code, operand_code, header_code, last_code, end_code, stmts_code, exports_code, put_body}
 use Rattle.bqn_compile.specs.Blocks.{expr_blocks, part_blocks, exprs_blocks, parts_blocks, blocks_from, stmt_blocks, stmts_blocks, body_blocks}
 use Rattle.bqn_compile.specs.Shown.{setting_shown}
 
@@ -177,7 +178,9 @@ module _ (g : Setting) (names : List BodyNames) (inside : ℕ) where
 
   abbrev mutual
     pub expr_walk : Expr → Walked → Walked
-    expr_walk (Value none (and_steps (Modify t d) ss)) w = push (load_at g (steps_walk ss w)) (derived_walk d (skip (in_token t) (push i.Call1 (push (store_at g arrow.Change (steps_walk ss w)) (steps_walk ss w)))))
+    expr_walk (Value none (and_steps (Modify t d) ss)) w =
+        push (load_at g (steps_walk ss w))
+        (derived_walk d (skip (in_token t) (push i.Call1 (push (store_at g arrow.Change (steps_walk ss w)) (steps_walk ss w)))))
     expr_walk (Value none ss) w = push i.Nothing (steps_walk ss w)
     expr_walk (Value (some x) ss) w = part_walk x (steps_walk ss w)
     expr_walk (Train ts ds) w = deriveds_walk ds (pushes (atop_code (parts_read ds)) (targets_walk g ts w))
@@ -186,7 +189,7 @@ module _ (g : Setting) (names : List BodyNames) (inside : ℕ) where
     pub part_walk : Part → Walked → Walked
     part_walk (Leaf t) w = token_walk g t w
     part_walk (Elements es) w = list_walk es w
-    part_walk (Merge es) w = list_walk es (push (i.Given 13) (push i.Call1 w))
+    part_walk (Merge es) w = list_walk es (push (i.Given merge) (push i.Call1 w))
     part_walk (Paren e) w = expr_walk e w
     part_walk (Braces b) w = block_walk b w
     part_walk (Field base ts) w = part_walk base (pushes (fields_code g.names ts) w)
@@ -253,6 +256,7 @@ body_made g own kind c (body h ss) = record {
   slots = length own.slots;
   exports = exports_code g.names own.exports;
   code = header_code g.uses c h ++ stmts_code g (stmts_export ss) (past c (in_header h)) ss;
+  places = put_body (λ l q i. or_else l q) g c h ss;
 }
 
 module _ (g : Setting) (names : List BodyNames) where

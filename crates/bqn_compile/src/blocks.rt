@@ -9,11 +9,10 @@ ghost use Rattle.bqn_compile.specs.Shown.{setting_shown};
 
 use crate::count::Count;
 use crate::emitting::body;
-use crate::no_memory::NoMemory;
 use crate::places::{fill, reserve};
 use crate::pools::Pools;
 use crate::walk::{Known, Walk};
-use bqn_base::Row;
+use bqn_base::{Memory, Row};
 use bqn_code::Block;
 use bqn_scope::{BodyNames, Use};
 use bqn_syntax::{Class, Stmt};
@@ -36,8 +35,9 @@ pub fn program_blocks(
     pools: &Pools,
     names: &[BodyNames],
     statements: &[Stmt],
-) -> Result<Row<Block>, NoMemory>
-    ensures { IfOk result (λ r. r ≡ program (setting_shown uses.now pools.now) (map body_shown names.now) (plain_stmts (map stmt_of statements.now)) ∷ stmts_blocks (setting_shown uses.now pools.now) (map body_shown names.now) 0 (plain_stmts (map stmt_of statements.now)) at_start) }
+) -> Result<Row<Block>, Memory>
+    ensures { IfOk result (λ r. r ≡ program (setting_shown uses.now pools.now) (map body_shown names.now) (plain_stmts (map stmt_of statements.now))
+        ∷ stmts_blocks (setting_shown uses.now pools.now) (map body_shown names.now) 0 (plain_stmts (map stmt_of statements.now)) at_start) }
 {
     let known = Known { uses, pools, names };
     let mut out = Walk {

@@ -7,7 +7,7 @@ ghost use Rattle.bqn_syntax.specs.grammar.Classes.{body_calls, has_predicate as 
 ghost use Rattle.bqn_syntax.specs.grammar.Trees.{body_of, bodies as plain_bodies, header_of, stmt_of, stmts as plain_stmts};
 ghost use Rattle.bqn_compile.specs.Bodies.{kind_code};
 
-use crate::no_memory::NoMemory;
+use bqn_base::Memory;
 use bqn_syntax::{BodyTree, Header, Stmt};
 
 fn is_predicate(s: &Stmt) -> bool
@@ -41,7 +41,7 @@ fn is_plain(b: &BodyTree) -> bool
 }
 
 /// With one more body, how many are plain.
-pub fn and_plain(b: &BodyTree, many: u32) -> Result<u32, NoMemory>
+pub fn and_plain(b: &BodyTree, many: u32) -> Result<u32, Memory>
     ensures { IfOk result (λ n. n ≡ and_plain_in (body_of b.now) many) }
 {
     if !is_plain(b) {
@@ -49,12 +49,12 @@ pub fn and_plain(b: &BodyTree, many: u32) -> Result<u32, NoMemory>
     }
     match many.checked_add(1) {
         Some(more) => Ok(more),
-        None => Err(NoMemory),
+        None => Err(Memory),
     }
 }
 
 /// How many bodies are plain.
-pub fn plain_among(all: &[BodyTree]) -> Result<u32, NoMemory>
+pub fn plain_among(all: &[BodyTree]) -> Result<u32, Memory>
     ensures { IfOk result (λ n. n ≡ plain_in (plain_bodies (map body_of all.now))) }
 {
     let mut many: u32 = 0;

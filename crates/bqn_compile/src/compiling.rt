@@ -50,6 +50,7 @@ fn translated_code(alloc: Global, resolved: &Resolved) -> Result<Code, CompileEr
     let names = pools.names.row()?;
     let Pools { patterns, .. } = pools;
     Ok(Code {
+        placed: true,
         names,
         constants,
         patterns: Row::new(patterns),

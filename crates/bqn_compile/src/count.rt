@@ -1,7 +1,7 @@
 ghost use Rattle.std.specs.Prelude.{◌≡◌, ◌+◌, IfOk};
 ghost use Rattle.bqn_compile.specs.Counting.{past as past_in, nothing as nothing_in, one_use as one_use_in, one_pattern as one_pattern_in, one_block as one_block_in};
 
-use crate::no_memory::NoMemory;
+use bqn_base::Memory;
 
 /// How many of what a code numbers in text order a part of a program has: names that refer to
 /// variables, blocks and their bodies, and patterns.
@@ -53,17 +53,17 @@ pub fn one_block(bodies: u32) -> Count
     }
 }
 
-fn sum(w: u32, x: u32) -> Result<u32, NoMemory>
+fn sum(w: u32, x: u32) -> Result<u32, Memory>
     ensures { IfOk result (λ n. n ≡ w + x) }
 {
     match w.checked_add(x) {
         Some(n) => Ok(n),
-        None => Err(NoMemory),
+        None => Err(Memory),
     }
 }
 
 /// Both together.
-pub fn past(c: Count, d: Count) -> Result<Count, NoMemory>
+pub fn past(c: Count, d: Count) -> Result<Count, Memory>
     ensures { IfOk result (λ r. r ≡ past_in c d) }
 {
     Ok(Count {

@@ -6,7 +6,7 @@ ghost use Rattle.bqn_syntax.specs.grammar.Trees.{pattern_of, patterns as plain_p
 ghost use Rattle.bqn_compile.specs.Counting.{in_token, in_leaves, in_all_leaves, in_pattern, in_target, in_argument};
 
 use crate::count::{Count, nothing, one_pattern, one_use, past};
-use crate::no_memory::NoMemory;
+use bqn_base::Memory;
 use bqn_syntax::{Kind, Pattern, Token};
 
 pub fn token(t: &Token) -> Count
@@ -20,7 +20,7 @@ pub fn token(t: &Token) -> Count
 
 #[cycle(pattern)]
 #[tactic(auto, using(bqn_syntax::specs::grammar::TreeEquations::tree_equations, crate::proofs::Counts::count_laws))]
-pub fn leaves(q: &Pattern) -> Result<Count, NoMemory>
+pub fn leaves(q: &Pattern) -> Result<Count, Memory>
     ensures { IfOk result (λ c. c ≡ in_leaves (pattern_of q.now)) }
 {
     match q {
@@ -33,7 +33,7 @@ pub fn leaves(q: &Pattern) -> Result<Count, NoMemory>
 
 #[cycle(pattern)]
 #[tactic(auto, using(bqn_syntax::specs::grammar::TreeEquations::tree_equations, crate::proofs::Counts::count_laws))]
-fn all_leaves(all: &[Pattern]) -> Result<Count, NoMemory>
+fn all_leaves(all: &[Pattern]) -> Result<Count, Memory>
     ensures { IfOk result (λ c. c ≡ in_all_leaves (plain_patterns (map pattern_of all.now))) }
 {
     let mut so = nothing();
@@ -44,7 +44,7 @@ fn all_leaves(all: &[Pattern]) -> Result<Count, NoMemory>
 }
 
 #[tactic(auto, using(bqn_syntax::specs::grammar::TreeEquations::tree_equations, crate::proofs::Counts::count_laws))]
-fn pattern(q: &Pattern) -> Result<Count, NoMemory>
+fn pattern(q: &Pattern) -> Result<Count, Memory>
     ensures { IfOk result (λ c. c ≡ in_pattern (pattern_of q.now)) }
 {
     past(one_pattern(), leaves(q)?)
@@ -52,7 +52,7 @@ fn pattern(q: &Pattern) -> Result<Count, NoMemory>
 
 /// The target of an arrow.
 #[tactic(auto, using(bqn_syntax::specs::grammar::TreeEquations::tree_equations, crate::proofs::Counts::count_laws))]
-pub fn target(q: &Pattern) -> Result<Count, NoMemory>
+pub fn target(q: &Pattern) -> Result<Count, Memory>
     ensures { IfOk result (λ c. c ≡ in_target (pattern_of q.now)) }
 {
     match q {
@@ -64,7 +64,7 @@ pub fn target(q: &Pattern) -> Result<Count, NoMemory>
 
 /// An argument of a header.
 #[tactic(auto, using(bqn_syntax::specs::grammar::TreeEquations::tree_equations, crate::proofs::Counts::count_laws))]
-pub fn argument(q: &Option<Pattern>) -> Result<Count, NoMemory>
+pub fn argument(q: &Option<Pattern>) -> Result<Count, Memory>
     ensures { IfOk result (λ c. c ≡ in_argument (option_map pattern_of q.now)) }
 {
     let Some(q) = q else {

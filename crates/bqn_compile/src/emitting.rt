@@ -13,7 +13,6 @@ use crate::body_kinds::{and_plain, has_predicate, kind, plain_among};
 use crate::body_names::own_names;
 use crate::count::one_block;
 use crate::header::header;
-use crate::no_memory::NoMemory;
 use crate::parts::{atop, derive, fields, fork};
 use crate::places::{fill, reserve};
 use crate::read::Read;
@@ -21,15 +20,18 @@ use crate::walk::{
     Known, Walk, drop_value, end, length, load_here, push, skip, store_here, target, targets,
     token, turn,
 };
-use crate::{counting, exporting, leaf};
-use bqn_base::Row;
+use crate::{counting, exporting, leaf, placing};
+use bqn_base::{Memory, Row};
 use bqn_code::{Body, Instr};
 use bqn_syntax::{Arrow, BlockTree, BodyTree, Derived, Expr, Header, ModUse, Part, Step, Stmt};
 use std::mem;
 
+/// The code of `>`, which merges the list of `[..]`.
+const MERGE: u8 = 13;
+
 #[cycle(emit)]
 #[tactic(auto, using(bqn_syntax::specs::grammar::TreeEquations::tree_equations, crate::proofs::Walks::walk_laws))]
-fn expr(known: &Known, inside: u32, e: &Expr, out: &mut Walk) -> Result<(), NoMemory>
+fn expr(known: &Known, inside: u32, e: &Expr, out: &mut Walk) -> Result<(), Memory>
     ensures { OnOk result (walked out.new ≡ expr_walk (setting_of known.now) (names_of known.now) inside (expr_of e.now) (walked out.old)) }
 {
     match e {
@@ -61,8 +63,9 @@ fn expr(known: &Known, inside: u32, e: &Expr, out: &mut Walk) -> Result<(), NoMe
 /// A value without a part at its end.
 #[cycle(emit)]
 #[tactic(auto, using(bqn_syntax::specs::grammar::TreeEquations::tree_equations, crate::proofs::Walks::walk_laws))]
-fn unstarted(known: &Known, inside: u32, all: &[Step], out: &mut Walk) -> Result<(), NoMemory>
-    ensures { OnOk result (walked out.new ≡ expr_walk (setting_of known.now) (names_of known.now) inside (Value none (plain_steps (map step_of all.now))) (walked out.old)) }
+fn unstarted(known: &Known, inside: u32, all: &[Step], out: &mut Walk) -> Result<(), Memory>
+    ensures { OnOk result (walked out.new ≡
+        expr_walk (setting_of known.now) (names_of known.now) inside (Value none (plain_steps (map step_of all.now))) (walked out.old)) }
 {
     let Some((first, rest)) = all.split_first() else {
         return push(out, Instr::Nothing);
@@ -94,7 +97,7 @@ fn unstarted(known: &Known, inside: u32, all: &[Step], out: &mut Walk) -> Result
 
 #[cycle(emit)]
 #[tactic(auto, using(bqn_syntax::specs::grammar::TreeEquations::tree_equations, crate::proofs::Walks::walk_laws))]
-fn part(known: &Known, inside: u32, x: &Part, out: &mut Walk) -> Result<(), NoMemory>
+fn part(known: &Known, inside: u32, x: &Part, out: &mut Walk) -> Result<(), Memory>
     ensures { OnOk result (walked out.new ≡ part_walk (setting_of known.now) (names_of known.now) inside (part_of x.now) (walked out.old)) }
 {
     match x {
@@ -102,7 +105,7 @@ fn part(known: &Known, inside: u32, x: &Part, out: &mut Walk) -> Result<(), NoMe
         Part::List(all) => list(known, inside, all.list(), out),
         Part::Merge(all) => {
             push(out, Instr::Call1)?;
-            push(out, Instr::Given(13))?;
+            push(out, Instr::Given(MERGE))?;
             list(known, inside, all.list(), out)
         }
         Part::Paren(e) => expr(known, inside, e.get(), out),
@@ -119,7 +122,7 @@ fn part(known: &Known, inside: u32, x: &Part, out: &mut Walk) -> Result<(), NoMe
 /// The elements of a list are evaluated from left to right, each of them from right to left.
 #[cycle(emit)]
 #[tactic(auto, using(bqn_syntax::specs::grammar::TreeEquations::tree_equations, crate::proofs::Walks::walk_laws))]
-fn list(known: &Known, inside: u32, all: &[Expr], out: &mut Walk) -> Result<(), NoMemory>
+fn list(known: &Known, inside: u32, all: &[Expr], out: &mut Walk) -> Result<(), Memory>
     ensures { OnOk result (walked out.new ≡ list_walk (setting_of known.now) (names_of known.now) inside (plain_exprs (map expr_of all.now)) (walked out.old)) }
 {
     push(out, Instr::List(length(all)?))?;
@@ -133,8 +136,9 @@ fn list(known: &Known, inside: u32, all: &[Expr], out: &mut Walk) -> Result<(), 
 
 #[cycle(emit)]
 #[tactic(auto, using(bqn_syntax::specs::grammar::TreeEquations::tree_equations, crate::proofs::Walks::walk_laws))]
-fn strand(known: &Known, inside: u32, all: &[Part], out: &mut Walk) -> Result<(), NoMemory>
-    ensures { OnOk result (walked out.new ≡ strand_walk (setting_of known.now) (names_of known.now) inside (plain_parts (map part_of all.now)) (walked out.old)) }
+fn strand(known: &Known, inside: u32, all: &[Part], out: &mut Walk) -> Result<(), Memory>
+    ensures { OnOk result (walked out.new ≡
+        strand_walk (setting_of known.now) (names_of known.now) inside (plain_parts (map part_of all.now)) (walked out.old)) }
 {
     push(out, Instr::List(length(all)?))?;
     let from = out.code.len();
@@ -148,7 +152,7 @@ fn strand(known: &Known, inside: u32, all: &[Part], out: &mut Walk) -> Result<()
 /// An expression whose code is done behind what is pushed.
 #[cycle(emit)]
 #[tactic(auto, using(bqn_syntax::specs::grammar::TreeEquations::tree_equations, crate::proofs::Walks::walk_laws))]
-fn forward(known: &Known, inside: u32, e: &Expr, out: &mut Walk) -> Result<(), NoMemory>
+fn forward(known: &Known, inside: u32, e: &Expr, out: &mut Walk) -> Result<(), Memory>
     ensures { OnOk result (onward out.new ≡ expr_behind (setting_of known.now) (names_of known.now) inside (expr_of e.now) (onward out.old)) }
 {
     let from = out.code.len();
@@ -159,7 +163,7 @@ fn forward(known: &Known, inside: u32, e: &Expr, out: &mut Walk) -> Result<(), N
 
 #[cycle(emit)]
 #[tactic(auto, using(bqn_syntax::specs::grammar::TreeEquations::tree_equations, crate::proofs::Walks::walk_laws))]
-fn forward_part(known: &Known, inside: u32, x: &Part, out: &mut Walk) -> Result<(), NoMemory>
+fn forward_part(known: &Known, inside: u32, x: &Part, out: &mut Walk) -> Result<(), Memory>
     ensures { OnOk result (onward out.new ≡ part_behind (setting_of known.now) (names_of known.now) inside (part_of x.now) (onward out.old)) }
 {
     let from = out.code.len();
@@ -171,8 +175,9 @@ fn forward_part(known: &Known, inside: u32, x: &Part, out: &mut Walk) -> Result<
 /// The steps stand in the text from the last to the first.
 #[cycle(emit)]
 #[tactic(auto, using(bqn_syntax::specs::grammar::TreeEquations::tree_equations, crate::proofs::Walks::walk_laws))]
-fn steps(known: &Known, inside: u32, all: &[Step], out: &mut Walk) -> Result<(), NoMemory>
-    ensures { OnOk result (walked out.new ≡ steps_walk (setting_of known.now) (names_of known.now) inside (plain_steps (map step_of all.now)) (walked out.old)) }
+fn steps(known: &Known, inside: u32, all: &[Step], out: &mut Walk) -> Result<(), Memory>
+    ensures { OnOk result (walked out.new ≡
+        steps_walk (setting_of known.now) (names_of known.now) inside (plain_steps (map step_of all.now)) (walked out.old)) }
 {
     for s in all.iter().rev() {
         step(known, inside, s, out)?;
@@ -182,7 +187,7 @@ fn steps(known: &Known, inside: u32, all: &[Step], out: &mut Walk) -> Result<(),
 
 #[cycle(emit)]
 #[tactic(auto, using(bqn_syntax::specs::grammar::TreeEquations::tree_equations, crate::proofs::Walks::walk_laws))]
-fn step(known: &Known, inside: u32, s: &Step, out: &mut Walk) -> Result<(), NoMemory>
+fn step(known: &Known, inside: u32, s: &Step, out: &mut Walk) -> Result<(), Memory>
     ensures { OnOk result (walked out.new ≡ step_walk (setting_of known.now) (names_of known.now) inside (step_of s.now) (walked out.old)) }
 {
     match s {
@@ -214,7 +219,7 @@ fn step(known: &Known, inside: u32, s: &Step, out: &mut Walk) -> Result<(), NoMe
 
 #[cycle(emit)]
 #[tactic(auto, using(bqn_syntax::specs::grammar::TreeEquations::tree_equations, crate::proofs::Walks::walk_laws))]
-fn derived(known: &Known, inside: u32, d: &Derived, out: &mut Walk) -> Result<(), NoMemory>
+fn derived(known: &Known, inside: u32, d: &Derived, out: &mut Walk) -> Result<(), Memory>
     ensures { OnOk result (walked out.new ≡ derived_walk (setting_of known.now) (names_of known.now) inside (derived_of d.now) (walked out.old)) }
 {
     derive(d.uses.list(), out)?;
@@ -224,7 +229,7 @@ fn derived(known: &Known, inside: u32, d: &Derived, out: &mut Walk) -> Result<()
 
 #[cycle(emit)]
 #[tactic(auto, using(bqn_syntax::specs::grammar::TreeEquations::tree_equations, crate::proofs::Walks::walk_laws))]
-fn mod_uses(known: &Known, inside: u32, all: &[ModUse], out: &mut Walk) -> Result<(), NoMemory>
+fn mod_uses(known: &Known, inside: u32, all: &[ModUse], out: &mut Walk) -> Result<(), Memory>
     ensures { OnOk result (walked out.new ≡ uses_walk (setting_of known.now) (names_of known.now) inside (plain_uses (map use_of all.now)) (walked out.old)) }
 {
     for u in all {
@@ -235,7 +240,7 @@ fn mod_uses(known: &Known, inside: u32, all: &[ModUse], out: &mut Walk) -> Resul
 
 #[cycle(emit)]
 #[tactic(auto, using(bqn_syntax::specs::grammar::TreeEquations::tree_equations, crate::proofs::Walks::walk_laws))]
-fn mod_use(known: &Known, inside: u32, u: &ModUse, out: &mut Walk) -> Result<(), NoMemory>
+fn mod_use(known: &Known, inside: u32, u: &ModUse, out: &mut Walk) -> Result<(), Memory>
     ensures { OnOk result (walked out.new ≡ use_walk (setting_of known.now) (names_of known.now) inside (use_of u.now) (walked out.old)) }
 {
     match u {
@@ -250,8 +255,9 @@ fn mod_use(known: &Known, inside: u32, u: &ModUse, out: &mut Walk) -> Result<(),
 /// The parts of a train, and what is made of them as they are read from the right.
 #[cycle(emit)]
 #[tactic(auto, using(bqn_syntax::specs::grammar::TreeEquations::tree_equations, crate::proofs::Walks::walk_laws))]
-fn deriveds(known: &Known, inside: u32, all: &[Derived], out: &mut Walk) -> Result<(), NoMemory>
-    ensures { OnOk result (walked out.new ≡ deriveds_walk (setting_of known.now) (names_of known.now) inside (plain_deriveds (map derived_of all.now)) (walked out.old)) }
+fn deriveds(known: &Known, inside: u32, all: &[Derived], out: &mut Walk) -> Result<(), Memory>
+    ensures { OnOk result (walked out.new ≡
+        deriveds_walk (setting_of known.now) (names_of known.now) inside (plain_deriveds (map derived_of all.now)) (walked out.old)) }
 {
     let mut right = all.len();
     for d in all {
@@ -265,7 +271,7 @@ fn deriveds(known: &Known, inside: u32, all: &[Derived], out: &mut Walk) -> Resu
 /// A block, which stands before those inside it.
 #[cycle(emit)]
 #[tactic(auto, using(bqn_syntax::specs::grammar::TreeEquations::tree_equations, crate::proofs::Walks::walk_laws))]
-fn block(known: &Known, inside: u32, b: &BlockTree, out: &mut Walk) -> Result<(), NoMemory>
+fn block(known: &Known, inside: u32, b: &BlockTree, out: &mut Walk) -> Result<(), Memory>
     ensures { OnOk result (walked out.new ≡ block_walk (setting_of known.now) (names_of known.now) inside (block_of b.now) (walked out.old)) }
 {
     let first = out.at.bodies;
@@ -280,14 +286,12 @@ fn block(known: &Known, inside: u32, b: &BlockTree, out: &mut Walk) -> Result<()
 /// The bodies of a block, the first of which has this number.
 #[cycle(emit)]
 #[tactic(auto, using(bqn_syntax::specs::grammar::TreeEquations::tree_equations, crate::proofs::Walks::walk_laws))]
-fn bodies(
-    known: &Known,
-    first: u32,
-    all: &[BodyTree],
-    out: &mut Walk,
-) -> Result<Row<Body>, NoMemory>
-    ensures made { IfOk result (λ r. r ≡ bodies_code (setting_of known.now) (names_of known.now) (plain_in (plain_bodies (map body_of all.now))) 0 first (onward out.old).at (plain_bodies (map body_of all.now))) }
-    ensures walk { OnOk result (onward out.new ≡ bodies_behind (setting_of known.now) (names_of known.now) first (plain_bodies (map body_of all.now)) (onward out.old)) }
+fn bodies(known: &Known, first: u32, all: &[BodyTree], out: &mut Walk) -> Result<Row<Body>, Memory>
+    ensures made { IfOk result (λ r. r ≡
+        bodies_code (setting_of known.now) (names_of known.now) (plain_in (plain_bodies (map body_of all.now))) 0 first (onward out.old).at
+        (plain_bodies (map body_of all.now))) }
+    ensures walk { OnOk result (onward out.new ≡
+        bodies_behind (setting_of known.now) (names_of known.now) first (plain_bodies (map body_of all.now)) (onward out.old)) }
 {
     let plain = plain_among(all)?;
     let mut made = Vec::new(known.pools.alloc);
@@ -299,7 +303,7 @@ fn bodies(
         let own = body(known, number, kind, &b.header, statements, out)?;
         made.push(own)?;
         let Some(next) = number.checked_add(1) else {
-            return Err(NoMemory);
+            return Err(Memory);
         };
         number = next;
         before = and_plain(b, before)?;
@@ -317,34 +321,48 @@ pub fn body(
     h: &Option<Header>,
     all: &[Stmt],
     out: &mut Walk,
-) -> Result<Body, NoMemory>
-    ensures made { IfOk result (λ b. b ≡ body_made (setting_of known.now) (names_in (slice_get (names_of known.now) number)) kind (onward out.old).at (body_tree (option_map header_of h.now) (plain_stmts (map stmt_of all.now)))) }
-    ensures walk { OnOk result (onward out.new ≡ body_behind (setting_of known.now) (names_of known.now) number (body_tree (option_map header_of h.now) (plain_stmts (map stmt_of all.now))) (onward out.old)) }
+) -> Result<Body, Memory>
+    ensures made { IfOk result (λ b. b ≡
+        body_made (setting_of known.now) (names_in (slice_get (names_of known.now) number)) kind (onward out.old).at
+        (body_tree (option_map header_of h.now) (plain_stmts (map stmt_of all.now)))) }
+    ensures walk { OnOk result (onward out.new ≡
+        body_behind (setting_of known.now) (names_of known.now) number (body_tree (option_map header_of h.now) (plain_stmts (map stmt_of all.now)))
+        (onward out.old)) }
 {
+    let exports = exporting::statements(all);
     let around = mem::replace(&mut out.code, Vec::new(known.pools.alloc));
     header(known, h, out)?;
-    statements(known, number, all, out)?;
+    statements(known, number, exports, all, out)?;
     let code = mem::replace(&mut out.code, around);
+    let places = placing::body(known.pools.alloc, code.len(), exports, h, all)?;
     let own = own_names(known, number)?;
     Ok(Body {
         kind,
         slots: own.0,
         exports: own.1,
         code: Row::new(code),
+        places: Row::new(places),
     })
 }
 
 /// The statements of the body with this number, and its end.
 #[cycle(emit)]
 #[tactic(auto, using(bqn_syntax::specs::grammar::TreeEquations::tree_equations, crate::proofs::Walks::walk_laws, crate::proofs::Onward::stmt_laws))]
-fn statements(known: &Known, inside: u32, all: &[Stmt], out: &mut Walk) -> Result<(), NoMemory>
-    ensures { OnOk result (onward out.new ≡ stmts_behind (setting_of known.now) (names_of known.now) inside false (stmts_export (plain_stmts (map stmt_of all.now))) (plain_stmts (map stmt_of all.now)) (onward out.old)) }
+fn statements(
+    known: &Known,
+    inside: u32,
+    exports: bool,
+    all: &[Stmt],
+    out: &mut Walk,
+) -> Result<(), Memory>
+    ensures { OnOk result (onward out.new ≡
+        stmts_behind (setting_of known.now) (names_of known.now) inside false exports (plain_stmts (map stmt_of all.now)) (onward out.old)) }
 {
     let mut left = false;
     for s in all {
         left = statement(known, inside, left, s, out)?;
     }
-    end(exporting::statements(all), left, out)
+    end(exports, left, out)
 }
 
 /// A statement behind one that has left a value, or has not; whether it leaves one.
@@ -356,7 +374,7 @@ fn statement(
     left: bool,
     s: &Stmt,
     out: &mut Walk,
-) -> Result<bool, NoMemory>
+) -> Result<bool, Memory>
     ensures leaves { IfOk result (λ leaves. leaves ≡ leaves_value (stmt_of s.now)) }
     ensures walk { OnOk result (onward out.new ≡ stmt_behind (setting_of known.now) (names_of known.now) inside left (stmt_of s.now) (onward out.old)) }
 {

@@ -10,7 +10,7 @@ ghost use Rattle.bqn_compile.specs.Shown.{GathersTo, gathered_shown};
 
 use crate::error::CompileError;
 use crate::patterns::pattern_code;
-use crate::pooling::{constant, defines, fields, name, opens, refers, shown};
+use crate::pooling::{constant, defines, exported, fields, name, opens, refers};
 use crate::pools::Pools;
 use bqn_scope::Use;
 use bqn_syntax::{
@@ -30,7 +30,8 @@ fn read(pools: &mut Pools, uses: &[Use], t: &Token) -> Result<(), CompileError>
 
 #[tactic(auto, using(bqn_syntax::specs::grammar::TreeEquations::tree_equations))]
 fn stored(pools: &mut Pools, uses: &[Use], t: &Token, arrow: Arrow) -> Result<(), CompileError>
-    ensures { GathersTo result (gathered_shown pools.new) (gather.token gather.the_most (map use_shown uses.now) (by_arrow arrow) t.now (gathered_shown pools.old)) }
+    ensures { GathersTo result (gathered_shown pools.new)
+        (gather.token gather.the_most (map use_shown uses.now) (by_arrow arrow) t.now (gathered_shown pools.old)) }
 {
     match &t.kind {
         Kind::Word(spelling, _) => {
@@ -51,7 +52,8 @@ fn pattern_leaf(
     t: &Token,
     arrow: Arrow,
 ) -> Result<(), CompileError>
-    ensures { GathersTo result (gathered_shown pools.new) (gather.pattern_leaf gather.the_most (map use_shown uses.now) (by_arrow arrow) t.now.kind t.now.place (gathered_shown pools.old)) }
+    ensures { GathersTo result (gathered_shown pools.new)
+        (gather.pattern_leaf gather.the_most (map use_shown uses.now) (by_arrow arrow) t.now.kind t.now.place (gathered_shown pools.old)) }
 {
     match &t.kind {
         Kind::Word(spelling, _) => {
@@ -65,7 +67,8 @@ fn pattern_leaf(
 #[cycle(leaves)]
 #[tactic(auto, using(bqn_syntax::specs::grammar::TreeEquations::tree_equations))]
 fn leaves(pools: &mut Pools, uses: &[Use], q: &Pattern, arrow: Arrow) -> Result<(), CompileError>
-    ensures { GathersTo result (gathered_shown pools.new) (gather.leaves gather.the_most (map use_shown uses.now) (by_arrow arrow) (pattern_of q.now) (gathered_shown pools.old)) }
+    ensures { GathersTo result (gathered_shown pools.new)
+        (gather.leaves gather.the_most (map use_shown uses.now) (by_arrow arrow) (pattern_of q.now) (gathered_shown pools.old)) }
 {
     match q {
         Pattern::Name(t) | Pattern::Literal(t) => pattern_leaf(pools, uses, t, arrow),
@@ -83,7 +86,8 @@ fn all_leaves(
     all: &[Pattern],
     arrow: Arrow,
 ) -> Result<(), CompileError>
-    ensures { GathersTo result (gathered_shown pools.new) (gather.all_leaves gather.the_most (map use_shown uses.now) (by_arrow arrow) (plain_patterns (map pattern_of all.now)) (gathered_shown pools.old)) }
+    ensures { GathersTo result (gathered_shown pools.new)
+        (gather.all_leaves gather.the_most (map use_shown uses.now) (by_arrow arrow) (plain_patterns (map pattern_of all.now)) (gathered_shown pools.old)) }
 {
     for q in all {
         leaves(pools, uses, q, arrow)?;
@@ -93,7 +97,8 @@ fn all_leaves(
 
 #[tactic(auto, using(bqn_syntax::specs::grammar::TreeEquations::tree_equations))]
 fn pattern(pools: &mut Pools, uses: &[Use], q: &Pattern, arrow: Arrow) -> Result<(), CompileError>
-    ensures { GathersTo result (gathered_shown pools.new) (gather.pattern gather.the_most (map use_shown uses.now) (by_arrow arrow) (pattern_of q.now) (gathered_shown pools.old)) }
+    ensures { GathersTo result (gathered_shown pools.new)
+        (gather.pattern gather.the_most (map use_shown uses.now) (by_arrow arrow) (pattern_of q.now) (gathered_shown pools.old)) }
 {
     let mut number = pools.uses;
     leaves(pools, uses, q, arrow)?;
@@ -104,7 +109,8 @@ fn pattern(pools: &mut Pools, uses: &[Use], q: &Pattern, arrow: Arrow) -> Result
 
 #[tactic(auto, using(bqn_syntax::specs::grammar::TreeEquations::tree_equations))]
 fn target(pools: &mut Pools, uses: &[Use], q: &Pattern, arrow: Arrow) -> Result<(), CompileError>
-    ensures { GathersTo result (gathered_shown pools.new) (gather.target gather.the_most (map use_shown uses.now) (by_arrow arrow) (pattern_of q.now) (gathered_shown pools.old)) }
+    ensures { GathersTo result (gathered_shown pools.new)
+        (gather.target gather.the_most (map use_shown uses.now) (by_arrow arrow) (pattern_of q.now) (gathered_shown pools.old)) }
 {
     match q {
         Pattern::Name(t) => stored(pools, uses, t, arrow),
@@ -115,7 +121,8 @@ fn target(pools: &mut Pools, uses: &[Use], q: &Pattern, arrow: Arrow) -> Result<
 
 #[tactic(auto, using(bqn_syntax::specs::grammar::TreeEquations::tree_equations))]
 fn argument(pools: &mut Pools, uses: &[Use], q: &Option<Pattern>) -> Result<(), CompileError>
-    ensures { GathersTo result (gathered_shown pools.new) (gather.argument gather.the_most (map use_shown uses.now) (option_map pattern_of q.now) (gathered_shown pools.old)) }
+    ensures { GathersTo result (gathered_shown pools.new)
+        (gather.argument gather.the_most (map use_shown uses.now) (option_map pattern_of q.now) (gathered_shown pools.old)) }
 {
     let Some(q) = q else {
         return Ok(());
@@ -142,7 +149,8 @@ fn operand(pools: &mut Pools, uses: &[Use], t: &Option<Token>) -> Result<(), Com
 
 #[tactic(auto, using(bqn_syntax::specs::grammar::TreeEquations::tree_equations))]
 fn header(pools: &mut Pools, uses: &[Use], h: &Option<Header>) -> Result<(), CompileError>
-    ensures { GathersTo result (gathered_shown pools.new) (gather.header gather.the_most (map use_shown uses.now) (option_map header_of h.now) (gathered_shown pools.old)) }
+    ensures { GathersTo result (gathered_shown pools.new)
+        (gather.header gather.the_most (map use_shown uses.now) (option_map header_of h.now) (gathered_shown pools.old)) }
 {
     let Some(h) = h else {
         return Ok(());
@@ -217,7 +225,8 @@ fn part(pools: &mut Pools, uses: &[Use], x: &Part) -> Result<(), CompileError>
 #[cycle(gather)]
 #[tactic(auto, using(bqn_syntax::specs::grammar::TreeEquations::tree_equations))]
 fn block(pools: &mut Pools, uses: &[Use], b: &BlockTree) -> Result<(), CompileError>
-    ensures { GathersTo result (gathered_shown pools.new) (gather.block_tree gather.the_most (map use_shown uses.now) (block_of b.now) (gathered_shown pools.old)) }
+    ensures { GathersTo result (gathered_shown pools.new)
+        (gather.block_tree gather.the_most (map use_shown uses.now) (block_of b.now) (gathered_shown pools.old)) }
 {
     opens(pools, b.place)?;
     bodies(pools, uses, b.bodies.list())
@@ -226,7 +235,8 @@ fn block(pools: &mut Pools, uses: &[Use], b: &BlockTree) -> Result<(), CompileEr
 #[cycle(gather)]
 #[tactic(auto, using(bqn_syntax::specs::grammar::TreeEquations::tree_equations, crate::proofs::Gathered::step_laws))]
 fn steps(pools: &mut Pools, uses: &[Use], all: &[Step]) -> Result<(), CompileError>
-    ensures { GathersTo result (gathered_shown pools.new) (gather.steps gather.the_most (map use_shown uses.now) (plain_steps (map step_of all.now)) (gathered_shown pools.old)) }
+    ensures { GathersTo result (gathered_shown pools.new)
+        (gather.steps gather.the_most (map use_shown uses.now) (plain_steps (map step_of all.now)) (gathered_shown pools.old)) }
 {
     for s in all.iter().rev() {
         step(pools, uses, s)?;
@@ -261,7 +271,8 @@ fn step(pools: &mut Pools, uses: &[Use], s: &Step) -> Result<(), CompileError>
 #[cycle(gather)]
 #[tactic(auto, using(bqn_syntax::specs::grammar::TreeEquations::tree_equations))]
 fn derived(pools: &mut Pools, uses: &[Use], d: &Derived) -> Result<(), CompileError>
-    ensures { GathersTo result (gathered_shown pools.new) (gather.derived_part gather.the_most (map use_shown uses.now) (derived_of d.now) (gathered_shown pools.old)) }
+    ensures { GathersTo result (gathered_shown pools.new)
+        (gather.derived_part gather.the_most (map use_shown uses.now) (derived_of d.now) (gathered_shown pools.old)) }
 {
     part(pools, uses, &d.first)?;
     mod_uses(pools, uses, d.uses.list())
@@ -270,7 +281,8 @@ fn derived(pools: &mut Pools, uses: &[Use], d: &Derived) -> Result<(), CompileEr
 #[cycle(gather)]
 #[tactic(auto, using(bqn_syntax::specs::grammar::TreeEquations::tree_equations))]
 fn mod_uses(pools: &mut Pools, uses: &[Use], all: &[ModUse]) -> Result<(), CompileError>
-    ensures { GathersTo result (gathered_shown pools.new) (gather.mod_uses gather.the_most (map use_shown uses.now) (plain_uses (map use_of all.now)) (gathered_shown pools.old)) }
+    ensures { GathersTo result (gathered_shown pools.new)
+        (gather.mod_uses gather.the_most (map use_shown uses.now) (plain_uses (map use_of all.now)) (gathered_shown pools.old)) }
 {
     for u in all {
         mod_use(pools, uses, u)?;
@@ -295,7 +307,8 @@ fn mod_use(pools: &mut Pools, uses: &[Use], u: &ModUse) -> Result<(), CompileErr
 #[cycle(gather)]
 #[tactic(auto, using(bqn_syntax::specs::grammar::TreeEquations::tree_equations))]
 fn deriveds(pools: &mut Pools, uses: &[Use], all: &[Derived]) -> Result<(), CompileError>
-    ensures { GathersTo result (gathered_shown pools.new) (gather.deriveds gather.the_most (map use_shown uses.now) (plain_deriveds (map derived_of all.now)) (gathered_shown pools.old)) }
+    ensures { GathersTo result (gathered_shown pools.new)
+        (gather.deriveds gather.the_most (map use_shown uses.now) (plain_deriveds (map derived_of all.now)) (gathered_shown pools.old)) }
 {
     for d in all {
         derived(pools, uses, d)?;
@@ -306,7 +319,8 @@ fn deriveds(pools: &mut Pools, uses: &[Use], all: &[Derived]) -> Result<(), Comp
 #[cycle(gather)]
 #[tactic(auto, using(bqn_syntax::specs::grammar::TreeEquations::tree_equations))]
 fn exprs(pools: &mut Pools, uses: &[Use], all: &[Expr]) -> Result<(), CompileError>
-    ensures { GathersTo result (gathered_shown pools.new) (gather.exprs gather.the_most (map use_shown uses.now) (plain_exprs (map expr_of all.now)) (gathered_shown pools.old)) }
+    ensures { GathersTo result (gathered_shown pools.new)
+        (gather.exprs gather.the_most (map use_shown uses.now) (plain_exprs (map expr_of all.now)) (gathered_shown pools.old)) }
 {
     for e in all {
         expr(pools, uses, e)?;
@@ -317,7 +331,8 @@ fn exprs(pools: &mut Pools, uses: &[Use], all: &[Expr]) -> Result<(), CompileErr
 #[cycle(gather)]
 #[tactic(auto, using(bqn_syntax::specs::grammar::TreeEquations::tree_equations))]
 fn parts(pools: &mut Pools, uses: &[Use], all: &[Part]) -> Result<(), CompileError>
-    ensures { GathersTo result (gathered_shown pools.new) (gather.parts gather.the_most (map use_shown uses.now) (plain_parts (map part_of all.now)) (gathered_shown pools.old)) }
+    ensures { GathersTo result (gathered_shown pools.new)
+        (gather.parts gather.the_most (map use_shown uses.now) (plain_parts (map part_of all.now)) (gathered_shown pools.old)) }
 {
     for x in all {
         part(pools, uses, x)?;
@@ -328,7 +343,8 @@ fn parts(pools: &mut Pools, uses: &[Use], all: &[Part]) -> Result<(), CompileErr
 #[cycle(gather)]
 #[tactic(auto, using(bqn_syntax::specs::grammar::TreeEquations::tree_equations))]
 pub fn stmts(pools: &mut Pools, uses: &[Use], all: &[Stmt]) -> Result<(), CompileError>
-    ensures { GathersTo result (gathered_shown pools.new) (gather.stmts gather.the_most (map use_shown uses.now) (plain_stmts (map stmt_of all.now)) (gathered_shown pools.old)) }
+    ensures { GathersTo result (gathered_shown pools.new)
+        (gather.stmts gather.the_most (map use_shown uses.now) (plain_stmts (map stmt_of all.now)) (gathered_shown pools.old)) }
 {
     for s in all {
         stmt(pools, uses, s)?;
@@ -343,14 +359,15 @@ fn stmt(pools: &mut Pools, uses: &[Use], s: &Stmt) -> Result<(), CompileError>
 {
     match s {
         Stmt::Eval(e) | Stmt::Predicate(e) => expr(pools, uses, e),
-        Stmt::Export(q) => shown(pools, q),
+        Stmt::Export(q) => exported(pools, q),
     }
 }
 
 #[cycle(gather)]
 #[tactic(auto, using(bqn_syntax::specs::grammar::TreeEquations::tree_equations))]
 fn bodies(pools: &mut Pools, uses: &[Use], all: &[BodyTree]) -> Result<(), CompileError>
-    ensures { GathersTo result (gathered_shown pools.new) (gather.bodies gather.the_most (map use_shown uses.now) (plain_bodies (map body_of all.now)) (gathered_shown pools.old)) }
+    ensures { GathersTo result (gathered_shown pools.new)
+        (gather.bodies gather.the_most (map use_shown uses.now) (plain_bodies (map body_of all.now)) (gathered_shown pools.old)) }
 {
     for b in all {
         body(pools, uses, b)?;
@@ -361,7 +378,8 @@ fn bodies(pools: &mut Pools, uses: &[Use], all: &[BodyTree]) -> Result<(), Compi
 #[cycle(gather)]
 #[tactic(auto, using(bqn_syntax::specs::grammar::TreeEquations::tree_equations))]
 fn body(pools: &mut Pools, uses: &[Use], b: &BodyTree) -> Result<(), CompileError>
-    ensures { GathersTo result (gathered_shown pools.new) (gather.body_tree gather.the_most (map use_shown uses.now) (body_of b.now) (gathered_shown pools.old)) }
+    ensures { GathersTo result (gathered_shown pools.new)
+        (gather.body_tree gather.the_most (map use_shown uses.now) (body_of b.now) (gathered_shown pools.old)) }
 {
     header(pools, uses, &b.header)?;
     stmts(pools, uses, b.statements.list())

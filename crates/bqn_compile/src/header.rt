@@ -9,9 +9,8 @@ ghost use Rattle.bqn_compile.specs.Walking.{append, argument_behind, asks, heade
 
 use crate::counting;
 use crate::leaf::seen;
-use crate::no_memory::NoMemory;
 use crate::walk::{Known, Walk, push, skip};
-use bqn_base::Role;
+use bqn_base::{Memory, Role};
 use bqn_code::Instr;
 use bqn_syntax::{Header, Kind, Pattern, Token};
 
@@ -31,7 +30,7 @@ fn asks_for(q: &Pattern) -> bool
 
 /// Pushes an argument and matches it by the pattern with this number.
 #[tactic(auto, using(bqn_syntax::specs::grammar::TreeEquations::tree_equations, crate::proofs::Headers::header_laws))]
-fn matched(i: Instr, number: u32, q: &Option<Pattern>, out: &mut Walk) -> Result<(), NoMemory>
+fn matched(i: Instr, number: u32, q: &Option<Pattern>, out: &mut Walk) -> Result<(), Memory>
     ensures { OnOk result (onward out.new ≡ append (argument_code i number (option_map pattern_of q.now)) (onward out.old)) }
 {
     let Some(x) = q else {
@@ -45,7 +44,7 @@ fn matched(i: Instr, number: u32, q: &Option<Pattern>, out: &mut Walk) -> Result
 }
 
 #[tactic(auto, using(crate::proofs::Headers::header_laws), unfolding(crate::specs::Walking::argument_behind))]
-fn argument(i: Instr, q: &Option<Pattern>, out: &mut Walk) -> Result<(), NoMemory>
+fn argument(i: Instr, q: &Option<Pattern>, out: &mut Walk) -> Result<(), Memory>
     ensures { OnOk result (onward out.new ≡ argument_behind i (option_map pattern_of q.now) (onward out.old)) }
 {
     matched(i, out.at.patterns, q, out)?;
@@ -54,7 +53,7 @@ fn argument(i: Instr, q: &Option<Pattern>, out: &mut Walk) -> Result<(), NoMemor
 
 /// Defines a name that a header has for a special name.
 #[tactic(auto, using(crate::proofs::Headers::header_laws), unfolding(crate::specs::Walking::setting_of))]
-fn named(known: &Known, i: Instr, t: &Token, out: &mut Walk) -> Result<(), NoMemory>
+fn named(known: &Known, i: Instr, t: &Token, out: &mut Walk) -> Result<(), Memory>
     ensures { OnOk result (onward out.new ≡ append (name_code i (seen_at (setting_of known.now).uses (onward out.old).at.uses) t.now.kind) (onward out.old)) }
 {
     let Kind::Word(_, _) = t.kind else {
@@ -67,7 +66,7 @@ fn named(known: &Known, i: Instr, t: &Token, out: &mut Walk) -> Result<(), NoMem
 }
 
 #[tactic(auto, using(crate::proofs::Headers::header_laws), unfolding(crate::specs::Walking::name_behind))]
-fn name(known: &Known, i: Instr, t: &Token, out: &mut Walk) -> Result<(), NoMemory>
+fn name(known: &Known, i: Instr, t: &Token, out: &mut Walk) -> Result<(), Memory>
     ensures { OnOk result (onward out.new ≡ name_behind (setting_of known.now) i t.now (onward out.old)) }
 {
     named(known, i, t, out)?;
@@ -75,7 +74,7 @@ fn name(known: &Known, i: Instr, t: &Token, out: &mut Walk) -> Result<(), NoMemo
 }
 
 #[tactic(auto, using(crate::proofs::Headers::header_laws))]
-fn operand(known: &Known, i: Instr, t: &Option<Token>, out: &mut Walk) -> Result<(), NoMemory>
+fn operand(known: &Known, i: Instr, t: &Option<Token>, out: &mut Walk) -> Result<(), Memory>
     ensures { OnOk result (onward out.new ≡ operand_behind (setting_of known.now) i t.now (onward out.old)) }
 {
     match t {
@@ -95,7 +94,7 @@ fn own_instr(kind: &Kind) -> Instr
 }
 
 #[tactic(auto, using(crate::proofs::Headers::header_laws))]
-pub fn header(known: &Known, h: &Option<Header>, out: &mut Walk) -> Result<(), NoMemory>
+pub fn header(known: &Known, h: &Option<Header>, out: &mut Walk) -> Result<(), Memory>
     ensures { OnOk result (onward out.new ≡ header_behind (setting_of known.now) (option_map header_of h.now) (onward out.old)) }
 {
     let Some(h) = h else {

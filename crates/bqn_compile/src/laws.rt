@@ -8,7 +8,7 @@ pub fn translated_code_is_verified()
 {}
 
 /// The blocks and names of the code of a tree are at most one more than the tokens that spell it.
-#[tactic(auto, using(crate::proofs::verified::BlocksAndNames::blocks_and_names_laws))]
+#[tactic(auto, using(crate::proofs::verified::blocks::BlocksAndNames::blocks_and_names_laws))]
 pub fn blocks_and_names_are_few()
     ensures { BlocksAndNamesAreFew }
 {}

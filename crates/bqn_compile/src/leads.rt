@@ -18,6 +18,16 @@ pub fn or_else(inherited: Place, own: Option<Place>) -> Place
     }
 }
 
+/// The first, or where it has none the next.
+pub fn or_next(first: Option<Place>, next: Option<Place>) -> Option<Place>
+    ensures { result ≡ lead.or_next first next }
+{
+    match first {
+        None => next,
+        Some(p) => Some(p),
+    }
+}
+
 #[cycle(pattern_lead)]
 #[tactic(auto, using(bqn_syntax::specs::grammar::TreeEquations::tree_equations))]
 pub fn pattern(q: &Pattern) -> Option<Place>
@@ -44,7 +54,7 @@ fn patterns(all: &[Pattern]) -> Option<Place>
     None
 }
 
-fn tokens(all: &[Token]) -> Option<Place>
+pub fn tokens(all: &[Token]) -> Option<Place>
     ensures { result ≡ lead.tokens_lead all.now }
 {
     match all.first() {
@@ -53,7 +63,7 @@ fn tokens(all: &[Token]) -> Option<Place>
     }
 }
 
-fn targets(all: &[(Token, Arrow)]) -> Option<Place>
+pub fn targets(all: &[(Token, Arrow)]) -> Option<Place>
     ensures { result ≡ lead.targets_lead all.now }
 {
     match all.first() {
@@ -64,7 +74,7 @@ fn targets(all: &[(Token, Arrow)]) -> Option<Place>
 
 #[cycle(leads)]
 #[tactic(auto, using(bqn_syntax::specs::grammar::TreeEquations::tree_equations))]
-pub fn expr(e: &Expr) -> Option<Place>
+fn expr(e: &Expr) -> Option<Place>
     ensures { result ≡ lead.expr_lead (expr_of e.now) }
 {
     match e {
@@ -121,13 +131,12 @@ pub fn part(x: &Part) -> Option<Place>
 fn steps(all: &[Step]) -> Option<Place>
     ensures { result ≡ lead.steps_lead (plain_steps (map step_of all.now)) }
 {
-    let mut found = None;
-    for s in all {
+    for s in all.iter().rev() {
         if let Some(p) = step(s) {
-            found = Some(p);
+            return Some(p);
         }
     }
-    found
+    None
 }
 
 #[cycle(leads)]
@@ -153,7 +162,7 @@ fn step(s: &Step) -> Option<Place>
 
 #[cycle(leads)]
 #[tactic(auto, using(bqn_syntax::specs::grammar::TreeEquations::tree_equations))]
-pub fn derived(d: &Derived) -> Option<Place>
+fn derived(d: &Derived) -> Option<Place>
     ensures { result ≡ lead.derived_lead (derived_of d.now) }
 {
     match part(&d.first) {
@@ -191,7 +200,7 @@ fn mod_use(u: &ModUse) -> Option<Place>
 
 #[cycle(leads)]
 #[tactic(auto, using(bqn_syntax::specs::grammar::TreeEquations::tree_equations))]
-pub fn deriveds(all: &[Derived]) -> Option<Place>
+fn deriveds(all: &[Derived]) -> Option<Place>
     ensures { result ≡ lead.deriveds_lead (plain_deriveds (map derived_of all.now)) }
 {
     for d in all {
@@ -204,7 +213,7 @@ pub fn deriveds(all: &[Derived]) -> Option<Place>
 
 #[cycle(leads)]
 #[tactic(auto, using(bqn_syntax::specs::grammar::TreeEquations::tree_equations))]
-pub fn exprs(all: &[Expr]) -> Option<Place>
+fn exprs(all: &[Expr]) -> Option<Place>
     ensures { result ≡ lead.exprs_lead (plain_exprs (map expr_of all.now)) }
 {
     for e in all {
@@ -217,7 +226,7 @@ pub fn exprs(all: &[Expr]) -> Option<Place>
 
 #[cycle(leads)]
 #[tactic(auto, using(bqn_syntax::specs::grammar::TreeEquations::tree_equations))]
-pub fn parts(all: &[Part]) -> Option<Place>
+fn parts(all: &[Part]) -> Option<Place>
     ensures { result ≡ lead.parts_lead (plain_parts (map part_of all.now)) }
 {
     for x in all {

@@ -8,8 +8,8 @@ ghost use Rattle.bqn_compile.specs.Expressions.{load as load_of, store as store_
 ghost use Rattle.bqn_compile.specs.Shown.{constants_shown, setting_shown, slot_shown};
 
 use crate::key::Key;
-use crate::no_memory::NoMemory;
 use crate::pools::{Pools, constant_at};
+use bqn_base::Memory;
 use bqn_code::Instr;
 use bqn_scope::Use;
 use bqn_syntax::{Arrow, Class, Kind, Special};
@@ -22,7 +22,7 @@ pub struct Slot {
 }
 
 /// What the use with this number refers to.
-pub fn seen(uses: &[Use], number: u32) -> Result<Slot, NoMemory>
+pub fn seen(uses: &[Use], number: u32) -> Result<Slot, Memory>
     ensures { IfOk result (λ at. slot_shown at ≡ seen_at (map use_shown uses.now) number) }
 {
     let Some(found) = uses.get(number as usize) else {
@@ -30,7 +30,7 @@ pub fn seen(uses: &[Use], number: u32) -> Result<Slot, NoMemory>
     };
     match u16::try_from(found.slot) {
         Ok(slot) => Ok(Slot { up: found.up, slot }),
-        Err(_) => Err(NoMemory),
+        Err(_) => Err(Memory),
     }
 }
 
@@ -89,22 +89,22 @@ pub fn system(name: &[char]) -> Instr
     }
 }
 
-pub fn literal(pools: &Pools, kind: &Kind) -> Result<Instr, NoMemory>
+pub fn literal(pools: &Pools, kind: &Kind) -> Result<Instr, Memory>
     ensures { IfOk result (λ i. i ≡ literal_in (constants_shown pools.now.constants.keys) (constant_of kind.now)) }
 {
     let key = match Key::of(pools.alloc, kind) {
         Ok(Some(key)) => key,
         Ok(None) => return Ok(Instr::Nothing),
-        Err(_) => return Err(NoMemory),
+        Err(_) => return Err(Memory),
     };
     match u16::try_from(constant_at(&pools.constants, &key)) {
         Ok(number) => Ok(Instr::Const(number)),
-        Err(_) => Err(NoMemory),
+        Err(_) => Err(Memory),
     }
 }
 
 /// A name, a literal or a primitive by itself, a name being the use with this number.
-pub fn leaf(uses: &[Use], pools: &Pools, number: u32, kind: &Kind) -> Result<Instr, NoMemory>
+pub fn leaf(uses: &[Use], pools: &Pools, number: u32, kind: &Kind) -> Result<Instr, Memory>
     ensures { IfOk result (λ i. i ≡ leaf_in (setting_shown uses.now pools.now) number kind.now) }
 {
     match kind {
@@ -120,11 +120,11 @@ pub fn leaf(uses: &[Use], pools: &Pools, number: u32, kind: &Kind) -> Result<Ins
 }
 
 /// A block's value, or its run where it stands.
-pub fn block(class: Class, number: u32) -> Result<Instr, NoMemory>
+pub fn block(class: Class, number: u32) -> Result<Instr, Memory>
     ensures { IfOk result (λ i. i ≡ block_in class number) }
 {
     let Ok(number) = u16::try_from(number) else {
-        return Err(NoMemory);
+        return Err(Memory);
     };
     match class {
         Class::Immediate => Ok(Instr::Run(number)),

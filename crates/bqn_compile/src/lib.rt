@@ -18,7 +18,6 @@ mod laws;
 mod leads;
 mod leaf;
 mod name_pool;
-mod no_memory;
 mod parts;
 mod patterns;
 mod places;

@@ -29,7 +29,8 @@ fn stored_leaf(
     number: u32,
     t: &Token,
 ) -> Result<PatternCode, Memory>
-    ensures { IfOk result (λ p. pattern_of p ≡ leaf_code (by_arrow arrow) (seen_at (map use_shown uses.now) number) (name_number (pools.now.names) (name_of t.now))) }
+    ensures { IfOk result (λ p. pattern_of p ≡
+        leaf_code (by_arrow arrow) (seen_at (map use_shown uses.now) number) (name_number (pools.now.names) (name_of t.now))) }
 {
     let Ok(at) = seen(uses, number) else {
         return Err(Memory);
@@ -90,7 +91,8 @@ pub fn pattern_code(
     number: &mut u32,
     q: &Pattern,
 ) -> Result<PatternCode, Memory>
-    ensures code { IfOk result (λ p. pattern_of p ≡ code_in (map use_shown uses.now) (constants_shown pools.now.constants.keys) pools.now.names (by_arrow arrow) number.old (tree_of q.now)) }
+    ensures code { IfOk result (λ p. pattern_of p ≡
+        code_in (map use_shown uses.now) (constants_shown pools.now.constants.keys) pools.now.names (by_arrow arrow) number.old (tree_of q.now)) }
     ensures past { OnOk result (number.new ≡ number.old + (in_leaves (tree_of q.now)).uses) }
 {
     match q {
@@ -115,7 +117,9 @@ fn list_code(
     number: &mut u32,
     all: &[Pattern],
 ) -> Result<PatternCode, Memory>
-    ensures code { IfOk result (λ p. pattern_of p ≡ ListPattern (patterns (all_code_in (map use_shown uses.now) (constants_shown pools.now.constants.keys) pools.now.names (by_arrow arrow) number.old (plain_patterns (map tree_of all.now))))) }
+    ensures code { IfOk result (λ p. pattern_of p ≡
+        ListPattern (patterns (all_code_in (map use_shown uses.now) (constants_shown pools.now.constants.keys) pools.now.names (by_arrow arrow) number.old
+        (plain_patterns (map tree_of all.now))))) }
     ensures past { OnOk result (number.new ≡ number.old + (in_all_leaves (plain_patterns (map tree_of all.now))).uses) }
 {
     let mut codes = Vec::new(pools.alloc);

@@ -1,24 +1,35 @@
-//! The places of the instructions of headers and expressions, in a walk of its own.
+//! The places of the instructions of a body, in a walk of its own. Each part gives its lead as well,
+//! so that nothing is gone through again for the lead of what is around it.
 
-ghost use Rattle.std.specs.Prelude.{◌≡◌, ◌++◌, ◌∷◌, [], false, IfOk, OnOk, map};
+ghost use Rattle.std.specs.Prelude.{◌≡◌, ◌++◌, ◌∷◌, [], false, Some, IfOk, OnOk, map};
 ghost use Rattle.std.specs.Option.{option_map};
 ghost use Rattle.bqn_syntax.specs.grammar.Trees.{pattern_of, header_of, Value, none, expr_of, part_of, step_of, derived_of, use_of, stmt_of, stmts as plain_stmts, exprs as plain_exprs, parts as plain_parts, steps as plain_steps, deriveds as plain_deriveds, uses as plain_uses};
-ghost use Rattle.bqn_syntax.specs.blocks.Leads.{at_start as start, stmt_lead, modifier_lead as lead_in};
+ghost use Rattle.bqn_syntax.specs.blocks.Leads as leading;
+ghost use Rattle.bqn_syntax.specs.blocks.Leads.{at_start as start, modifier_lead as lead_in};
 ghost use Rattle.bqn_compile.specs.Expressions.{and_one as one_more, parts_read};
 ghost use Rattle.bqn_compile.specs.Placing as placing;
 
 use crate::leads;
-use crate::leads::or_else;
+use crate::leads::{or_else, or_next};
 use crate::read::Read;
-use bqn_base::Place;
+use bqn_base::{Memory, Place};
 use bqn_syntax::{Arrow, Derived, Expr, Header, Kind, ModUse, Part, Pattern, Step, Stmt, Token};
-use std::alloc::AllocError;
+use std::alloc::Global;
 
-fn push(out: &mut Vec<Place>, p: Place) -> Result<(), AllocError>
+fn push(out: &mut Vec<Place>, p: Place) -> Result<(), Memory>
     ensures { OnOk result (out.new.items ≡ out.old.items ++ p ∷ []) }
 {
     out.push(p)?;
     Ok(())
+}
+
+/// A single place, which is the lead of what has it.
+fn single(p: Place, out: &mut Vec<Place>) -> Result<Option<Place>, Memory>
+    ensures places { OnOk result (out.new.items ≡ out.old.items ++ p ∷ []) }
+    ensures own { IfOk result (λ own. own ≡ Some p) }
+{
+    push(out, p)?;
+    Ok(Some(p))
 }
 
 fn and_one(read: Read) -> Read
@@ -31,7 +42,7 @@ fn and_one(read: Read) -> Read
 }
 
 #[tactic(auto, using(crate::proofs::Placings::placing_laws))]
-fn if_two(p: Place, read: Read, out: &mut Vec<Place>) -> Result<(), AllocError>
+fn if_two(p: Place, read: Read, out: &mut Vec<Place>) -> Result<(), Memory>
     ensures { OnOk result (out.new.items ≡ out.old.items ++ placing.if_two p read) }
 {
     match read {
@@ -42,7 +53,7 @@ fn if_two(p: Place, read: Read, out: &mut Vec<Place>) -> Result<(), AllocError>
 }
 
 #[tactic(auto, using(crate::proofs::Placings::placing_laws))]
-fn fields(all: &[Token], out: &mut Vec<Place>) -> Result<(), AllocError>
+fn fields(all: &[Token], out: &mut Vec<Place>) -> Result<(), Memory>
     ensures { OnOk result (out.new.items ≡ out.old.items ++ placing.fields_places all.now) }
 {
     for t in all {
@@ -62,7 +73,7 @@ fn modifier_lead(u: &ModUse) -> Option<Place>
 }
 
 #[tactic(auto, using(bqn_syntax::specs::grammar::TreeEquations::tree_equations, crate::proofs::Placings::placing_laws))]
-fn derives(lead: Place, all: &[ModUse], out: &mut Vec<Place>) -> Result<(), AllocError>
+fn derives(lead: Place, all: &[ModUse], out: &mut Vec<Place>) -> Result<(), Memory>
     ensures { OnOk result (out.new.items ≡ out.old.items ++ placing.derives_places lead (plain_uses (map use_of all.now))) }
 {
     for u in all {
@@ -73,73 +84,82 @@ fn derives(lead: Place, all: &[ModUse], out: &mut Vec<Place>) -> Result<(), Allo
 
 #[cycle(placing)]
 #[tactic(auto, using(bqn_syntax::specs::grammar::TreeEquations::tree_equations, crate::proofs::Placings::placing_laws))]
-fn part(lead: Place, x: &Part, out: &mut Vec<Place>) -> Result<(), AllocError>
-    ensures { OnOk result (out.new.items ≡ out.old.items ++ placing.part_places lead (part_of x.now)) }
+fn part(lead: Place, x: &Part, out: &mut Vec<Place>) -> Result<Option<Place>, Memory>
+    ensures places { OnOk result (out.new.items ≡ out.old.items ++ placing.part_places lead (part_of x.now)) }
+    ensures own { IfOk result (λ own. own ≡ leading.part_lead (part_of x.now)) }
 {
     match x {
-        Part::Leaf(t) => push(out, t.place),
+        Part::Leaf(t) => single(t.place, out),
         Part::List(all) => {
-            exprs(lead, all.list(), out)?;
-            push(out, or_else(lead, leads::exprs(all.list())))
+            let own = exprs(lead, all.list(), out)?;
+            push(out, or_else(lead, own))?;
+            Ok(own)
         }
         Part::Merge(all) => {
-            exprs(lead, all.list(), out)?;
-            let place = or_else(lead, leads::exprs(all.list()));
+            let own = exprs(lead, all.list(), out)?;
+            let place = or_else(lead, own);
             push(out, place)?;
             push(out, place)?;
-            push(out, place)
+            push(out, place)?;
+            Ok(own)
         }
         Part::Paren(e) => expr(lead, e.get(), out),
         Part::Block(b) => {
             let b = b.get();
-            push(out, b.place)
+            single(b.place, out)
         }
         Part::Field { base, names } => {
-            part(lead, base.get(), out)?;
-            fields(names.list(), out)
+            let own = part(lead, base.get(), out)?;
+            fields(names.list(), out)?;
+            Ok(or_next(own, leads::tokens(names.list())))
         }
         Part::Strand(all) => {
-            parts(lead, all.list(), out)?;
-            push(out, or_else(lead, leads::parts(all.list())))
+            let own = parts(lead, all.list(), out)?;
+            push(out, or_else(lead, own))?;
+            Ok(own)
         }
-        Part::Nothing(place) => push(out, *place),
+        Part::Nothing(place) => single(*place, out),
     }
 }
 
 #[cycle(placing)]
 #[tactic(auto, using(bqn_syntax::specs::grammar::TreeEquations::tree_equations, crate::proofs::Placings::placing_laws))]
-pub fn expr(lead: Place, e: &Expr, out: &mut Vec<Place>) -> Result<(), AllocError>
-    ensures { OnOk result (out.new.items ≡ out.old.items ++ placing.expr_places lead (expr_of e.now)) }
+fn expr(lead: Place, e: &Expr, out: &mut Vec<Place>) -> Result<Option<Place>, Memory>
+    ensures places { OnOk result (out.new.items ≡ out.old.items ++ placing.expr_places lead (expr_of e.now)) }
+    ensures own { IfOk result (λ own. own ≡ leading.expr_lead (expr_of e.now)) }
 {
     match e {
         Expr::Value { last, steps: all } => match last {
             None => unstarted(lead, all.list(), out),
             Some(x) => {
-                part(lead, x, out)?;
-                steps(lead, all.list(), out)
+                let own = part(lead, x, out)?;
+                let first = steps(lead, all.list(), out)?;
+                Ok(or_next(first, own))
             }
         },
         Expr::Train {
             targets: names,
             parts: train,
         } => {
-            let read = deriveds(lead, train.list(), out)?;
-            if_two(or_else(lead, leads::deriveds(train.list())), read, out)?;
-            targets(names.list(), out)
+            let (own, read) = deriveds(lead, train.list(), out)?;
+            if_two(or_else(lead, own), read, out)?;
+            targets(names.list(), out)?;
+            Ok(or_next(leads::targets(names.list()), own))
         }
         Expr::Modifier {
             targets: names,
             part: x,
         } => {
-            part(lead, x, out)?;
-            targets(names.list(), out)
+            let own = part(lead, x, out)?;
+            targets(names.list(), out)?;
+            Ok(or_next(leads::targets(names.list()), own))
         }
     }
 }
 
 /// The rightmost target is stored first.
 #[tactic(auto, using(crate::proofs::Placings::placing_laws))]
-fn targets(all: &[(Token, Arrow)], out: &mut Vec<Place>) -> Result<(), AllocError>
+fn targets(all: &[(Token, Arrow)], out: &mut Vec<Place>) -> Result<(), Memory>
     ensures { OnOk result (out.new.items ≡ out.old.items ++ placing.targets_places all.now) }
 {
     for t in all.iter().rev() {
@@ -150,19 +170,22 @@ fn targets(all: &[(Token, Arrow)], out: &mut Vec<Place>) -> Result<(), AllocErro
 
 #[cycle(placing)]
 #[tactic(auto, using(bqn_syntax::specs::grammar::TreeEquations::tree_equations, crate::proofs::Placings::placing_laws))]
-fn unstarted(lead: Place, all: &[Step], out: &mut Vec<Place>) -> Result<(), AllocError>
-    ensures { OnOk result (out.new.items ≡ out.old.items ++ placing.expr_places lead (Value none (plain_steps (map step_of all.now)))) }
+fn unstarted(lead: Place, all: &[Step], out: &mut Vec<Place>) -> Result<Option<Place>, Memory>
+    ensures places { OnOk result (out.new.items ≡ out.old.items ++ placing.expr_places lead (Value none (plain_steps (map step_of all.now)))) }
+    ensures own { IfOk result (λ own. own ≡ leading.steps_lead (plain_steps (map step_of all.now))) }
 {
     let Some((first, rest)) = all.split_first() else {
-        return push(out, lead);
+        push(out, lead)?;
+        return Ok(None);
     };
     match first {
         Step::Modify { target, function } => {
             push(out, target.place)?;
-            derived(lead, function, out)?;
-            push(out, or_else(lead, leads::derived(function)))?;
+            let own = derived(lead, function, out)?;
+            push(out, or_else(lead, own))?;
             push(out, target.place)?;
-            steps(lead, rest, out)
+            let before = steps(lead, rest, out)?;
+            Ok(or_next(before, Some(target.place)))
         }
         Step::Apply { .. } => {
             push(out, lead)?;
@@ -177,115 +200,141 @@ fn unstarted(lead: Place, all: &[Step], out: &mut Vec<Place>) -> Result<(), Allo
 
 #[cycle(placing)]
 #[tactic(auto, using(bqn_syntax::specs::grammar::TreeEquations::tree_equations, crate::proofs::Placings::placing_laws))]
-fn steps(lead: Place, all: &[Step], out: &mut Vec<Place>) -> Result<(), AllocError>
-    ensures { OnOk result (out.new.items ≡ out.old.items ++ placing.steps_places lead (plain_steps (map step_of all.now))) }
+fn steps(lead: Place, all: &[Step], out: &mut Vec<Place>) -> Result<Option<Place>, Memory>
+    ensures places { OnOk result (out.new.items ≡ out.old.items ++ placing.steps_places lead (plain_steps (map step_of all.now))) }
+    ensures own { IfOk result (λ own. own ≡ leading.steps_lead (plain_steps (map step_of all.now))) }
 {
+    let mut own = None;
     for s in all {
-        step(lead, s, out)?;
+        own = or_next(step(lead, s, out)?, own);
     }
-    Ok(())
+    Ok(own)
 }
 
 #[cycle(placing)]
 #[tactic(auto, using(bqn_syntax::specs::grammar::TreeEquations::tree_equations, crate::proofs::Placings::placing_laws))]
-fn step(lead: Place, s: &Step, out: &mut Vec<Place>) -> Result<(), AllocError>
-    ensures { OnOk result (out.new.items ≡ out.old.items ++ placing.step_places lead (step_of s.now)) }
+fn step(lead: Place, s: &Step, out: &mut Vec<Place>) -> Result<Option<Place>, Memory>
+    ensures places { OnOk result (out.new.items ≡ out.old.items ++ placing.step_places lead (step_of s.now)) }
+    ensures own { IfOk result (λ own. own ≡ leading.step_lead (step_of s.now)) }
 {
     match s {
         Step::Apply { function, left } => {
-            derived(lead, function, out)?;
-            match left {
-                None => {}
+            let called = derived(lead, function, out)?;
+            let first = match left {
+                None => None,
                 Some(w) => part(lead, w, out)?,
-            }
-            push(out, or_else(lead, leads::derived(function)))
+            };
+            push(out, or_else(lead, called))?;
+            Ok(or_next(first, called))
         }
-        Step::Assign { target, arrow: _ } => push(out, or_else(lead, leads::pattern(target))),
+        Step::Assign { target, arrow: _ } => {
+            let own = leads::pattern(target);
+            push(out, or_else(lead, own))?;
+            Ok(own)
+        }
         Step::Modify { target, function } => {
-            derived(lead, function, out)?;
+            let own = derived(lead, function, out)?;
             push(out, target.place)?;
-            push(out, or_else(lead, leads::derived(function)))?;
-            push(out, target.place)
+            push(out, or_else(lead, own))?;
+            push(out, target.place)?;
+            Ok(Some(target.place))
         }
     }
 }
 
 #[cycle(placing)]
 #[tactic(auto, using(bqn_syntax::specs::grammar::TreeEquations::tree_equations, crate::proofs::Placings::placing_laws))]
-fn derived(lead: Place, d: &Derived, out: &mut Vec<Place>) -> Result<(), AllocError>
-    ensures { OnOk result (out.new.items ≡ out.old.items ++ placing.derived_places lead (derived_of d.now)) }
+fn derived(lead: Place, d: &Derived, out: &mut Vec<Place>) -> Result<Option<Place>, Memory>
+    ensures places { OnOk result (out.new.items ≡ out.old.items ++ placing.derived_places lead (derived_of d.now)) }
+    ensures own { IfOk result (λ own. own ≡ leading.derived_lead (derived_of d.now)) }
 {
-    mod_uses(lead, d.uses.list(), out)?;
-    part(lead, &d.first, out)?;
-    derives(lead, d.uses.list(), out)
+    let after = mod_uses(lead, d.uses.list(), out)?;
+    let own = part(lead, &d.first, out)?;
+    derives(lead, d.uses.list(), out)?;
+    Ok(or_next(own, after))
 }
 
 /// The last modifier is the outermost.
 #[cycle(placing)]
 #[tactic(auto, using(bqn_syntax::specs::grammar::TreeEquations::tree_equations, crate::proofs::Placings::placing_laws))]
-fn mod_uses(lead: Place, all: &[ModUse], out: &mut Vec<Place>) -> Result<(), AllocError>
-    ensures { OnOk result (out.new.items ≡ out.old.items ++ placing.uses_places lead (plain_uses (map use_of all.now))) }
+fn mod_uses(lead: Place, all: &[ModUse], out: &mut Vec<Place>) -> Result<Option<Place>, Memory>
+    ensures places { OnOk result (out.new.items ≡ out.old.items ++ placing.uses_places lead (plain_uses (map use_of all.now))) }
+    ensures own { IfOk result (λ own. own ≡ leading.uses_lead (plain_uses (map use_of all.now))) }
 {
+    let mut own = None;
     for u in all.iter().rev() {
-        mod_use(lead, u, out)?;
+        own = or_next(mod_use(lead, u, out)?, own);
     }
-    Ok(())
+    Ok(own)
 }
 
 #[cycle(placing)]
 #[tactic(auto, using(bqn_syntax::specs::grammar::TreeEquations::tree_equations, crate::proofs::Placings::placing_laws))]
-fn mod_use(lead: Place, u: &ModUse, out: &mut Vec<Place>) -> Result<(), AllocError>
-    ensures { OnOk result (out.new.items ≡ out.old.items ++ placing.use_places lead (use_of u.now)) }
+fn mod_use(lead: Place, u: &ModUse, out: &mut Vec<Place>) -> Result<Option<Place>, Memory>
+    ensures places { OnOk result (out.new.items ≡ out.old.items ++ placing.use_places lead (use_of u.now)) }
+    ensures own { IfOk result (λ own. own ≡ leading.use_lead (use_of u.now)) }
 {
     match u {
         ModUse::One(m) => part(lead, m, out),
         ModUse::Two(m, x) => {
-            part(lead, x, out)?;
-            part(lead, m, out)
+            let after = part(lead, x, out)?;
+            let own = part(lead, m, out)?;
+            Ok(or_next(own, after))
         }
     }
 }
 
-/// The parts of a train from the right.
+/// The parts of a train from the right; the lead of all, and what they are read as.
 #[cycle(placing)]
 #[tactic(auto, using(bqn_syntax::specs::grammar::TreeEquations::tree_equations, crate::proofs::Placings::placing_laws))]
-fn deriveds(lead: Place, all: &[Derived], out: &mut Vec<Place>) -> Result<Read, AllocError>
+fn deriveds(
+    lead: Place,
+    all: &[Derived],
+    out: &mut Vec<Place>,
+) -> Result<(Option<Place>, Read), Memory>
     ensures places { OnOk result (out.new.items ≡ out.old.items ++ placing.deriveds_places lead (plain_deriveds (map derived_of all.now))) }
-    ensures read { IfOk result (λ r. r ≡ parts_read (plain_deriveds (map derived_of all.now))) }
+    ensures own { IfOk result (λ r. r.0 ≡ leading.deriveds_lead (plain_deriveds (map derived_of all.now))) }
+    ensures read { IfOk result (λ r. r.1 ≡ parts_read (plain_deriveds (map derived_of all.now))) }
 {
+    let mut own = None;
     let mut read = Read::No;
     for d in all.iter().rev() {
-        derived(lead, d, out)?;
-        if_two(or_else(lead, leads::derived(d)), read, out)?;
+        let first = derived(lead, d, out)?;
+        if_two(or_else(lead, first), read, out)?;
+        own = or_next(first, own);
         read = and_one(read);
     }
-    Ok(read)
+    Ok((own, read))
 }
 
 #[cycle(placing)]
 #[tactic(auto, using(bqn_syntax::specs::grammar::TreeEquations::tree_equations, crate::proofs::Placings::placing_laws))]
-fn exprs(lead: Place, all: &[Expr], out: &mut Vec<Place>) -> Result<(), AllocError>
-    ensures { OnOk result (out.new.items ≡ out.old.items ++ placing.exprs_places lead (plain_exprs (map expr_of all.now))) }
+fn exprs(lead: Place, all: &[Expr], out: &mut Vec<Place>) -> Result<Option<Place>, Memory>
+    ensures places { OnOk result (out.new.items ≡ out.old.items ++ placing.exprs_places lead (plain_exprs (map expr_of all.now))) }
+    ensures own { IfOk result (λ own. own ≡ leading.exprs_lead (plain_exprs (map expr_of all.now))) }
 {
+    let mut own = None;
     for e in all {
-        expr(lead, e, out)?;
+        own = or_next(own, expr(lead, e, out)?);
     }
-    Ok(())
+    Ok(own)
 }
 
 #[cycle(placing)]
 #[tactic(auto, using(bqn_syntax::specs::grammar::TreeEquations::tree_equations, crate::proofs::Placings::placing_laws))]
-fn parts(lead: Place, all: &[Part], out: &mut Vec<Place>) -> Result<(), AllocError>
-    ensures { OnOk result (out.new.items ≡ out.old.items ++ placing.parts_places lead (plain_parts (map part_of all.now))) }
+fn parts(lead: Place, all: &[Part], out: &mut Vec<Place>) -> Result<Option<Place>, Memory>
+    ensures places { OnOk result (out.new.items ≡ out.old.items ++ placing.parts_places lead (plain_parts (map part_of all.now))) }
+    ensures own { IfOk result (λ own. own ≡ leading.parts_lead (plain_parts (map part_of all.now))) }
 {
+    let mut own = None;
     for x in all {
-        part(lead, x, out)?;
+        own = or_next(own, part(lead, x, out)?);
     }
-    Ok(())
+    Ok(own)
 }
 
 #[tactic(auto, using(bqn_syntax::specs::grammar::TreeEquations::tree_equations, crate::proofs::Placings::placing_laws))]
-fn matched(place: Place, out: &mut Vec<Place>) -> Result<(), AllocError>
+fn matched(place: Place, out: &mut Vec<Place>) -> Result<(), Memory>
     ensures { OnOk result (out.new.items ≡ out.old.items ++ place ∷ place ∷ []) }
 {
     push(out, place)?;
@@ -293,7 +342,7 @@ fn matched(place: Place, out: &mut Vec<Place>) -> Result<(), AllocError>
 }
 
 #[tactic(auto, using(bqn_syntax::specs::grammar::TreeEquations::tree_equations, crate::proofs::Placings::placing_laws))]
-fn argument(lead: Place, q: &Option<Pattern>, out: &mut Vec<Place>) -> Result<(), AllocError>
+fn argument(lead: Place, q: &Option<Pattern>, out: &mut Vec<Place>) -> Result<(), Memory>
     ensures { OnOk result (out.new.items ≡ out.old.items ++ placing.argument_places lead (option_map pattern_of q.now)) }
 {
     let Some(q) = q else {
@@ -310,7 +359,7 @@ fn argument(lead: Place, q: &Option<Pattern>, out: &mut Vec<Place>) -> Result<()
 }
 
 #[tactic(auto, using(crate::proofs::Placings::placing_laws))]
-fn name(t: &Token, out: &mut Vec<Place>) -> Result<(), AllocError>
+fn name(t: &Token, out: &mut Vec<Place>) -> Result<(), Memory>
     ensures { OnOk result (out.new.items ≡ out.old.items ++ placing.name_places t.now.place t.now.kind) }
 {
     let Kind::Word(_, _) = t.kind else {
@@ -322,7 +371,7 @@ fn name(t: &Token, out: &mut Vec<Place>) -> Result<(), AllocError>
 }
 
 #[tactic(auto, using(crate::proofs::Placings::placing_laws))]
-fn operand(t: &Option<Token>, out: &mut Vec<Place>) -> Result<(), AllocError>
+fn operand(t: &Option<Token>, out: &mut Vec<Place>) -> Result<(), Memory>
     ensures { OnOk result (out.new.items ≡ out.old.items ++ placing.operand_places t.now) }
 {
     match t {
@@ -332,7 +381,7 @@ fn operand(t: &Option<Token>, out: &mut Vec<Place>) -> Result<(), AllocError>
 }
 
 #[tactic(auto, using(bqn_syntax::specs::grammar::TreeEquations::tree_equations, crate::proofs::Placings::placing_laws))]
-pub fn header(h: &Option<Header>, out: &mut Vec<Place>) -> Result<(), AllocError>
+fn header(h: &Option<Header>, out: &mut Vec<Place>) -> Result<(), Memory>
     ensures { OnOk result (out.new.items ≡ out.old.items ++ placing.header_places (option_map header_of h.now)) }
 {
     let Some(h) = h else {
@@ -346,14 +395,14 @@ pub fn header(h: &Option<Header>, out: &mut Vec<Place>) -> Result<(), AllocError
     argument(lead, &h.right, out)
 }
 
-fn dropped(left: bool, place: Place, out: &mut Vec<Place>) -> Result<(), AllocError>
+fn dropped(left: bool, place: Place, out: &mut Vec<Place>) -> Result<(), Memory>
     ensures { OnOk result (out.new.items ≡ out.old.items ++ placing.drop_places left place) }
 {
     if left { push(out, place) } else { Ok(()) }
 }
 
 #[tactic(auto, using(crate::proofs::Placings::placing_laws))]
-fn end(exports: bool, left: bool, place: Place, out: &mut Vec<Place>) -> Result<(), AllocError>
+fn end(exports: bool, left: bool, place: Place, out: &mut Vec<Place>) -> Result<(), Memory>
     ensures { OnOk result (out.new.items ≡ out.old.items ++ placing.ending_places exports left place) }
 {
     if exports == left {
@@ -365,7 +414,7 @@ fn end(exports: bool, left: bool, place: Place, out: &mut Vec<Place>) -> Result<
 
 /// What a statement has by itself; whether it leaves a value.
 #[tactic(auto, using(bqn_syntax::specs::grammar::TreeEquations::tree_equations, crate::proofs::Placings::placing_laws))]
-fn statement(lead: Place, s: &Stmt, out: &mut Vec<Place>) -> Result<bool, AllocError>
+fn statement(lead: Place, s: &Stmt, out: &mut Vec<Place>) -> Result<bool, Memory>
     ensures places { OnOk result (out.new.items ≡ out.old.items ++ placing.own_places lead (stmt_of s.now)) }
     ensures leaves { IfOk result (λ b. b ≡ placing.leaves_one (stmt_of s.now)) }
 {
@@ -384,7 +433,7 @@ fn statement(lead: Place, s: &Stmt, out: &mut Vec<Place>) -> Result<bool, AllocE
 }
 
 #[tactic(auto, using(bqn_syntax::specs::grammar::TreeEquations::tree_equations, crate::proofs::Placings::placing_laws))]
-pub fn statements(exports: bool, all: &[Stmt], out: &mut Vec<Place>) -> Result<(), AllocError>
+fn statements(exports: bool, all: &[Stmt], out: &mut Vec<Place>) -> Result<(), Memory>
     ensures { OnOk result (out.new.items ≡ out.old.items ++ placing.rest_places exports false start (plain_stmts (map stmt_of all.now))) }
 {
     let mut left = false;
@@ -395,4 +444,21 @@ pub fn statements(exports: bool, all: &[Stmt], out: &mut Vec<Place>) -> Result<(
         left = statement(lead, s, out)?;
     }
     end(exports, left, lead, out)
+}
+
+/// The places of a body that has so many instructions.
+pub fn body(
+    alloc: Global,
+    many: usize,
+    exports: bool,
+    h: &Option<Header>,
+    all: &[Stmt],
+) -> Result<Vec<Place>, Memory>
+    ensures { IfOk result (λ out. out.items ≡
+        placing.header_places (option_map header_of h.now) ++ placing.rest_places exports false start (plain_stmts (map stmt_of all.now))) }
+{
+    let mut out = Vec::with_capacity(alloc, many)?;
+    header(h, &mut out)?;
+    statements(exports, all, &mut out)?;
+    Ok(out)
 }

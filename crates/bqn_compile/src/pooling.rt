@@ -121,26 +121,26 @@ pub fn fields(pools: &mut Pools, names: &[Token]) -> Result<(), CompileError>
 }
 
 /// The names that are exported without a value.
-#[cycle(shown)]
+#[cycle(exported)]
 #[tactic(auto, using(bqn_syntax::specs::grammar::TreeEquations::tree_equations))]
-pub fn shown(pools: &mut Pools, q: &Pattern) -> Result<(), CompileError>
-    ensures { GathersTo result (gathered_shown pools.new) (gather.shown (pattern_of q.now) (gathered_shown pools.old)) }
+pub fn exported(pools: &mut Pools, q: &Pattern) -> Result<(), CompileError>
+    ensures { GathersTo result (gathered_shown pools.new) (gather.exported (pattern_of q.now) (gathered_shown pools.old)) }
 {
     match q {
         Pattern::Name(t) => name(pools, spelling(t)),
         Pattern::Skip(_) | Pattern::Literal(_) => Ok(()),
-        Pattern::List(all) => all_shown(pools, all.list()),
-        Pattern::Strand(all) => all_shown(pools, all.list()),
+        Pattern::List(all) => all_exported(pools, all.list()),
+        Pattern::Strand(all) => all_exported(pools, all.list()),
     }
 }
 
-#[cycle(shown)]
+#[cycle(exported)]
 #[tactic(auto, using(bqn_syntax::specs::grammar::TreeEquations::tree_equations))]
-fn all_shown(pools: &mut Pools, all: &[Pattern]) -> Result<(), CompileError>
-    ensures { GathersTo result (gathered_shown pools.new) (gather.all_shown (plain_patterns (map pattern_of all.now)) (gathered_shown pools.old)) }
+fn all_exported(pools: &mut Pools, all: &[Pattern]) -> Result<(), CompileError>
+    ensures { GathersTo result (gathered_shown pools.new) (gather.all_exported (plain_patterns (map pattern_of all.now)) (gathered_shown pools.old)) }
 {
     for q in all {
-        shown(pools, q)?;
+        exported(pools, q)?;
     }
     Ok(())
 }

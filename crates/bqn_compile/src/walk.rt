@@ -7,8 +7,8 @@ ghost use Rattle.bqn_compile.specs.Walking.{append, drop_code, ending, load_at, 
 use crate::count::{Count, past};
 use crate::counting;
 use crate::leaf::{leaf, load, seen, store};
-use crate::no_memory::NoMemory;
 use crate::pools::Pools;
+use bqn_base::Memory;
 use bqn_code::{Block, Instr};
 use bqn_scope::{BodyNames, Use};
 use bqn_syntax::{Arrow, Pattern, Token};
@@ -33,7 +33,7 @@ pub struct Walk {
 
 /// Goes past so much of the text.
 #[tactic(auto, using(crate::proofs::Walks::push_laws), unfolding(crate::specs::Walking::walked, crate::specs::Walking::onward, crate::specs::Walking::skip))]
-pub fn skip(out: &mut Walk, so: Count) -> Result<(), NoMemory>
+pub fn skip(out: &mut Walk, so: Count) -> Result<(), Memory>
     ensures walked { OnOk result (walked out.new ≡ skipped so (walked out.old)) }
     ensures onward { OnOk result (onward out.new ≡ skipped so (onward out.old)) }
 {
@@ -44,7 +44,7 @@ pub fn skip(out: &mut Walk, so: Count) -> Result<(), NoMemory>
 /// Pushes an instruction: the one before those pushed so far within an expression, and behind them
 /// elsewhere.
 #[tactic(auto, using(crate::proofs::Walks::push_laws), unfolding(crate::specs::Walking::walked, crate::specs::Walking::onward, crate::specs::Walking::push, crate::specs::Walking::append))]
-pub fn push(out: &mut Walk, i: Instr) -> Result<(), NoMemory>
+pub fn push(out: &mut Walk, i: Instr) -> Result<(), Memory>
     ensures walked { OnOk result (walked out.new ≡ pushed i (walked out.old)) }
     ensures onward { OnOk result (onward out.new ≡ append (i ∷ []) (onward out.old)) }
 {
@@ -64,7 +64,7 @@ pub fn turn(out: &mut Walk, from: usize)
 
 /// The value that a statement has left is dropped before the next one.
 #[tactic(auto, using(crate::proofs::Walks::push_laws))]
-pub fn drop_value(left: bool, out: &mut Walk) -> Result<(), NoMemory>
+pub fn drop_value(left: bool, out: &mut Walk) -> Result<(), Memory>
     ensures { OnOk result (onward out.new ≡ append (drop_code left) (onward out.old)) }
 {
     if left { push(out, Instr::Pop) } else { Ok(()) }
@@ -72,7 +72,7 @@ pub fn drop_value(left: bool, out: &mut Walk) -> Result<(), NoMemory>
 
 /// What ends a body behind its last statement, which has left a value or has not.
 #[tactic(auto, using(crate::proofs::Walks::push_laws))]
-pub fn end(exports: bool, left: bool, out: &mut Walk) -> Result<(), NoMemory>
+pub fn end(exports: bool, left: bool, out: &mut Walk) -> Result<(), Memory>
     ensures { OnOk result (onward out.new ≡ append (ending left exports) (onward out.old)) }
 {
     if exports {
@@ -86,18 +86,18 @@ pub fn end(exports: bool, left: bool, out: &mut Walk) -> Result<(), NoMemory>
 }
 
 /// How many elements a list has.
-pub fn length<T>(all: &[T]) -> Result<u32, NoMemory>
+pub fn length<T>(all: &[T]) -> Result<u32, Memory>
     ensures { IfOk result (λ n. n ≡ list_length all.now) }
 {
     match u32::try_from(all.len()) {
         Ok(n) => Ok(n),
-        Err(_) => Err(NoMemory),
+        Err(_) => Err(Memory),
     }
 }
 
 /// Reads the variable whose use comes next.
 #[tactic(auto, using(crate::proofs::Walks::push_laws), unfolding(crate::specs::Walking::setting_of, crate::specs::Walking::load_at))]
-pub fn load_here(known: &Known, out: &Walk) -> Result<Instr, NoMemory>
+pub fn load_here(known: &Known, out: &Walk) -> Result<Instr, Memory>
     ensures { IfOk result (λ i. i ≡ load_at (setting_of known.now) (walked out.now)) }
 {
     match seen(known.uses, out.at.uses) {
@@ -108,7 +108,7 @@ pub fn load_here(known: &Known, out: &Walk) -> Result<Instr, NoMemory>
 
 /// Stores into the variable whose use comes next.
 #[tactic(auto, using(crate::proofs::Walks::push_laws), unfolding(crate::specs::Walking::setting_of, crate::specs::Walking::store_at))]
-pub fn store_here(known: &Known, arrow: Arrow, out: &Walk) -> Result<Instr, NoMemory>
+pub fn store_here(known: &Known, arrow: Arrow, out: &Walk) -> Result<Instr, Memory>
     ensures { IfOk result (λ i. i ≡ store_at (setting_of known.now) arrow (walked out.now)) }
 {
     match seen(known.uses, out.at.uses) {
@@ -119,7 +119,7 @@ pub fn store_here(known: &Known, arrow: Arrow, out: &Walk) -> Result<Instr, NoMe
 
 /// A name, a literal or a primitive by itself.
 #[tactic(auto, using(crate::proofs::Walks::push_laws), unfolding(crate::specs::Walking::setting_of, crate::specs::Walking::token_walk))]
-pub fn token(known: &Known, t: &Token, out: &mut Walk) -> Result<(), NoMemory>
+pub fn token(known: &Known, t: &Token, out: &mut Walk) -> Result<(), Memory>
     ensures { OnOk result (walked out.new ≡ token_walk (setting_of known.now) t.now (walked out.old)) }
 {
     let i = leaf(known.uses, known.pools, out.at.uses, &t.kind)?;
@@ -129,7 +129,7 @@ pub fn token(known: &Known, t: &Token, out: &mut Walk) -> Result<(), NoMemory>
 
 /// The target of an arrow.
 #[tactic(auto, using(bqn_syntax::specs::grammar::TreeEquations::tree_equations, crate::proofs::Walks::push_laws), unfolding(crate::specs::Walking::setting_of, crate::specs::Walking::target_walk, crate::specs::Walking::store_at))]
-pub fn target(known: &Known, q: &Pattern, arrow: Arrow, out: &mut Walk) -> Result<(), NoMemory>
+pub fn target(known: &Known, q: &Pattern, arrow: Arrow, out: &mut Walk) -> Result<(), Memory>
     ensures { OnOk result (walked out.new ≡ target_walk (setting_of known.now) (pattern_of q.now) arrow (walked out.old)) }
 {
     let i = match q {
@@ -143,7 +143,7 @@ pub fn target(known: &Known, q: &Pattern, arrow: Arrow, out: &mut Walk) -> Resul
 
 /// The targets of a train or a modifier, the rightmost of which is stored first.
 #[tactic(auto, using(crate::proofs::Walks::push_laws))]
-pub fn targets(known: &Known, all: &[(Token, Arrow)], out: &mut Walk) -> Result<(), NoMemory>
+pub fn targets(known: &Known, all: &[(Token, Arrow)], out: &mut Walk) -> Result<(), Memory>
     ensures { OnOk result (walked out.new ≡ targets_walk (setting_of known.now) all.now (walked out.old)) }
 {
     for t in all {

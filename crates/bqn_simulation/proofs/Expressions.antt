@@ -52,7 +52,7 @@ use Rattle.bqn_compile.specs.Expressions.{at_lead, leaf_instr, special_instr, sy
 use Rattle.bqn_simulation.specs.Views.{view, Same, Agree}
 use Rattle.bqn_simulation.proofs.Agree.{binds, pures, faults, knows, uses, gives, ats, Only, only_pure, only_known, only_at, only_bind, only_any}
 use Rattle.bqn_simulation.proofs.Acts.{push, as_is, Side, Acts, seq, framed, still, recoded, treed, grouped, nested, single, single_value, seq3, mapped, seq_where}
-use Rattle.bqn_compile.proofs.verified.Fronts.{some_same}
+use Rattle.bqn_compile.proofs.verified.slots.Fronts.{some_same}
 use Rattle.bqn_simulation.proofs.Look.{Linked, over, looks, changes, defines}
 use Rattle.bqn_simulation.proofs.Stacks.{pile, taken_all, Shaped, laid, shaped_more}
 use Rattle.bqn_simulation.proofs.Places.{token_blocks, targets_blocks, expr_same, part_same, steps_same, derived_same, use_same}

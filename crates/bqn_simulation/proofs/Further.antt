@@ -24,11 +24,11 @@ use Rattle.bqn_compile.specs.Blocks.{stmts_blocks}
 use Rattle.bqn_compile.specs.Sources.{FromSource}
 use Rattle.bqn_compile.specs.Translation.{at_start, setting, program, translation}
 use Rattle.bqn_compile.proofs.Counts.{past-nothing}
-use Rattle.bqn_compile.proofs.verified.PlacedCodes.{placed_is}
-use Rattle.bqn_compile.proofs.verified.Fronts.{front_same, front_more, front_at, at_back, some_same}
-use Rattle.bqn_compile.proofs.verified.BlockCounts.{stmts_counts}
-use Rattle.bqn_compile.proofs.verified.Seeing.{inside_front}
-use Rattle.bqn_compile.proofs.verified.Items.{EachItem, stmts_items}
+use Rattle.bqn_simulation.proofs.PlacedCodes.{placed_is}
+use Rattle.bqn_compile.proofs.verified.slots.Fronts.{front_same, front_more, front_at, at_back, some_same}
+use Rattle.bqn_compile.proofs.verified.blocks.BlockCounts.{stmts_counts}
+use Rattle.bqn_compile.proofs.verified.slots.Seeing.{inside_front}
+use Rattle.bqn_compile.proofs.verified.pools.Items.{EachItem, stmts_items}
 use Rattle.bqn_simulation.proofs.Look.{Distinct}
 use Rattle.bqn_simulation.proofs.Named as named
 use Rattle.bqn_simulation.proofs.BodyCounts.{stmts_many}

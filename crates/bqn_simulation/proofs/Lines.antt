@@ -20,7 +20,7 @@ use Rattle.bqn_execution.specs.States as c
 use Rattle.bqn_code.specs.Numbering.{Table, BodyAt}
 use Rattle.bqn_execution.specs.Execution as e
 use Rattle.bqn_execution.specs.Programs as p
-use Rattle.bqn_compile.proofs.verified.Fronts.{same_equal, same_itself}
+use Rattle.bqn_compile.proofs.verified.slots.Fronts.{same_equal, same_itself}
 use Rattle.bqn_simulation.specs.Views.{slots, view, onto, Same, Agree}
 use Rattle.bqn_simulation.proofs.Agree.{binds, pures, faults}
 use Rattle.bqn_simulation.proofs.Bodies.{ended, body_same}

@@ -33,7 +33,7 @@ use Rattle.bqn_compile.specs.Patterns.{stored_leaf, literal_leaf, pattern_code, 
 use Rattle.bqn_rows.specs.Running.{Res, Gives, Ends, then_do}
 use Rattle.bqn_simulation.specs.Views.{view, onto, Same}
 use Rattle.bqn_simulation.proofs.Agree.{binds, pures, faults, where_same}
-use Rattle.bqn_compile.proofs.verified.Fronts.{some_same}
+use Rattle.bqn_compile.proofs.verified.slots.Fronts.{some_same}
 use Rattle.bqn_simulation.proofs.Look.{Linked, over, changes, defines}
 use Rattle.bqn_simulation.proofs.Fields.{Exporting, has_field, field_same}
 use Rattle.bqn_simulation.proofs.Told as told

@@ -15,17 +15,17 @@ use Rattle.bqn_code.specs.Plain.{Code}
 use Rattle.bqn_compile.specs.declared.count.Count.{Count}
 use Rattle.bqn_compile.specs.Counting.{past, one_block, in_token, in_targets, in_expr, in_part, in_block, in_maybe, in_steps, in_step, in_derived, in_uses, in_use, in_deriveds, in_exprs, in_parts, in_stmts, in_header}
 use Rattle.bqn_compile.specs.Expressions.{Setting, at_lead}
-use Rattle.bqn_compile.proofs.verified.PlacedCodes.{placed_is}
+use Rattle.bqn_simulation.proofs.PlacedCodes.{placed_is}
 use Rattle.bqn_execution.specs.Execution.{placed_code}
 use Rattle.bqn_syntax.specs.blocks.Leads.{at_start}
 use Rattle.bqn_syntax.specs.blocks.Counting.{how_many}
 use Rattle.bqn_syntax.specs.blocks.Blocks.{plain_in}
 use Rattle.bqn_compile.specs.Blocks.{bodies_code, expr_blocks, part_blocks, blocks_from, maybe_blocks, steps_blocks, step_blocks, derived_blocks, uses_blocks, use_blocks, deriveds_blocks, exprs_blocks, parts_blocks, stmts_blocks}
 use Rattle.bqn_compile.proofs.Counts.{past-nothing}
-use Rattle.bqn_compile.proofs.verified.Items.{Item, EachItem, expr_items, part_items, block_items, maybe_items, steps_items, step_items, derived_items, uses_items, use_items, deriveds_items, exprs_items, parts_items, stmts_items, header_items, bodies_items}
-use Rattle.bqn_compile.proofs.verified.CodePasses.{each_front, each_back, steps_counted, part_counted, maybe_counted, derived_counted, use_counted, expr_counted, targets_counted}
-use Rattle.bqn_compile.proofs.verified.BlockCounts.{Counts, NoBlocks, targets_none, token_none, expr_counts, part_counts, maybe_counts, steps_counts, derived_counts, use_counts}
-use Rattle.bqn_compile.proofs.verified.BlockPlaces.{Stand, stand_front, stand_past}
+use Rattle.bqn_compile.proofs.verified.pools.Items.{Item, EachItem, expr_items, part_items, block_items, maybe_items, steps_items, step_items, derived_items, uses_items, use_items, deriveds_items, exprs_items, parts_items, stmts_items, header_items, bodies_items}
+use Rattle.bqn_compile.proofs.verified.pools.CodePasses.{each_front, each_back, steps_counted, part_counted, maybe_counted, derived_counted, use_counted, expr_counted, targets_counted}
+use Rattle.bqn_compile.proofs.verified.blocks.BlockCounts.{Counts, NoBlocks, targets_none, token_none, expr_counts, part_counts, maybe_counts, steps_counts, derived_counts, use_counts}
+use Rattle.bqn_compile.proofs.verified.blocks.BlockPlaces.{Stand, stand_front, stand_past}
 use Rattle.bqn_simulation.proofs.Mentioned.{InsideSeen}
 use Rattle.bqn_simulation.proofs.BodyCounts.{count_bodies}
 use Rattle.bqn_simulation.proofs.Told as told
@@ -42,10 +42,10 @@ use Rattle.bqn_code.specs.declared.code.Body.{Body}
 use Rattle.bqn_compile.specs.Bodies.{kind_code, names_in, exports_code, put_header, put_stmts, body_code, calls_of}
 use Rattle.bqn_compile.specs.Blocks.{stmt_blocks, bodies_blocks}
 use Rattle.bqn_compile.specs.Counting.{in_body, in_stmt}
-use Rattle.bqn_compile.proofs.verified.Items.{stmt_items}
-use Rattle.bqn_compile.proofs.verified.BlockCounts.{bodies_in, many_bodies, header_none, stmt_counts, body_counts}
-use Rattle.bqn_compile.proofs.verified.BlockPlaces.{stand_behind}
-use Rattle.bqn_compile.proofs.verified.CodePasses.{header_counted, stmt_counted, body_counted}
+use Rattle.bqn_compile.proofs.verified.pools.Items.{stmt_items}
+use Rattle.bqn_compile.proofs.verified.blocks.BlockCounts.{bodies_in, many_bodies, header_none, stmt_counts, body_counts}
+use Rattle.bqn_compile.proofs.verified.blocks.BlockPlaces.{stand_behind}
+use Rattle.bqn_compile.proofs.verified.pools.CodePasses.{header_counted, stmt_counted, body_counted}
 use Rattle.std.proofs.lemmas.Option.{none-some}
 use Rattle.bqn_simulation.proofs.Exported.{AllExported, InsideExported}
 use Rattle.bqn_simulation.proofs.Named.{BlockNamed, InsideNamed}

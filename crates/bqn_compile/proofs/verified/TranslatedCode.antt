@@ -14,11 +14,11 @@ use Rattle.bqn_compile.specs.Shown.{CompilesTo}
 use Rattle.bqn_compile.specs.Sources.{FromSource}
 use Rattle.bqn_compile.specs.Laws.{IsVerified, HasFew, TranslatedCodeIsVerified}
 use Rattle.bqn_compile.proofs.verified.TheCode.{IsTranslation, is_translation}
-use Rattle.bqn_compile.proofs.verified.Bodies.{BodiesVerified, bodies_verified}
-use Rattle.bqn_compile.proofs.verified.Blocks.{BlocksVerified, blocks_verified}
-use Rattle.bqn_compile.proofs.verified.Slots.{SlotsVerified, slots_verified}
-use Rattle.bqn_compile.proofs.verified.BlocksAndNames.{blocks_and_names_few}
-use Rattle.bqn_compile.proofs.verified.PoolLaws.{PoolsVerified, pools_verified}
+use Rattle.bqn_compile.proofs.verified.bodies.Bodies.{BodiesVerified, bodies_verified}
+use Rattle.bqn_compile.proofs.verified.blocks.Blocks.{BlocksVerified, blocks_verified}
+use Rattle.bqn_compile.proofs.verified.slots.Slots.{SlotsVerified, slots_verified}
+use Rattle.bqn_compile.proofs.verified.blocks.BlocksAndNames.{blocks_and_names_few}
+use Rattle.bqn_compile.proofs.verified.pools.PoolLaws.{PoolsVerified, pools_verified}
 
 translation_verified : (outer : List (List ℕ)) (ss : Stmts) (tokens : List Token) (r : Resolution) (pools : Gathered) → FromSource outer ss tokens r → gathered the_most r.uses ss ≡ Ok pools → Verified (translation r pools ss)
 translation_verified outer ss tokens r pools source e =

@@ -1,4 +1,4 @@
-use Rattle.std.proofs.Common.{◌≡◌, ℕ, ◌+◌, ◌-◌, Bool, suc, List, ◌∷◌, map, drop, length, arith, refl, ap, sym, ◌∙◌}
+use Rattle.std.proofs.Common.{◌≡◌, ℕ, ◌+◌, ◌-◌, Bool, false, suc, List, ◌∷◌, map, drop, length, arith, refl, ap, sym, ◌∙◌}
 use Rattle.std.specs.Option.{option_map}
 use Rattle.std.proofs.lemmas.Iterator.Adapters.{YieldsList-from_rev_slice}
 use Rattle.std.proofs.lemmas.Iterator.Consumers.{YieldsList-end}
@@ -10,20 +10,20 @@ use Rattle.bqn_syntax.specs.declared.tree.Part.{Part as CodePart}
 use Rattle.bqn_syntax.specs.declared.tree.Stmt.{Stmt as CodeStmt}
 use Rattle.bqn_syntax.specs.blocks.Blocks.{plain_in}
 use Rattle.bqn_syntax.specs.grammar.Classes.{body_calls}
-use Rattle.bqn_syntax.specs.blocks.Exporting.{stmts_export}
 use Rattle.bqn_syntax.specs.grammar.TreeEquations.{block-out, body-out}
 use Rattle.bqn_syntax.specs.grammar.Trees.{Step, BlockTree, body, header_of, expr_of, part_of, step_of, stmt_of, body_of, steps, exprs, parts, stmts, bodies}
 use Rattle.bqn_code.specs.declared.instr.Instr.TheVariants as i
 use Rattle.bqn_compile.specs.declared.count.Count.{Count}
 use Rattle.bqn_compile.specs.Blocks.{bodies_code}
 use Rattle.bqn_compile.specs.Bodies.{kind_code}
-use Rattle.bqn_compile.specs.Walking.{setting_of, names_of, walked, onward, push, skip, append, ending, steps_walk, exprs_behind, parts_behind, stmts_behind, bodies_behind, block_walk}
+use Rattle.bqn_compile.specs.Walking.{setting_of, names_of, walked, onward, push, skip, steps_walk, exprs_behind, parts_behind, stmts_behind, bodies_behind, block_walk}
 use Rattle.bqn_compile.proofs.Yielded.{all-yielded}
 use Rattle.bqn_compile.proofs.Onward.{stmts-end}
 use Rattle.bqn_compile.proofs.Turning.{expr-turned, part-turned, list-turned, strand-turned}
 use Rattle.bqn_compile.proofs.Bodies.{body-code-made, body-walk-made, block-made}
 use Rattle.bqn_compile.proofs.Loops.{on_ok, many-exprs, many-parts, many-bodies, empty, drop-next, deriveds-step, stmts-step, bodies-walk, bodies-made}
 use Rattle.bqn_compile.proofs.Unstarted.{unstarted-Apply, unstarted-Assign, unstarted-Modify, unstarted-none}
+use Rattle.bqn_compile.proofs.verified.places.Placing.{places_made}
 use Rattle.bqn_compile.proofs.emitting.+emit.Goals as goal
 
 pub forward-returns : goal.forward-returns
@@ -100,14 +100,18 @@ body-returns-clause-made t c =
       exports = c.in_ok-own.ensures.exports j;
       code = (c.new-2.ensures ∙ ap (λ v. v.items) c.replace-code.ensures.value
           ∙ body-code-made (setting_of c.args.known.now) (names_of c.args.known.now) c.args.out.now (record { at = c.args.out.now.at; code = c.replace-around.new.dest; blocks = c.args.out.now.blocks }) c.header.new.out c.statements.new.out c.args.number (option_map header_of c.args.h.now) (stmts (map stmt_of c.args.all.now))
-          refl (ap (λ v. v.items) c.replace-around.ensures.after ∙ c.new.ensures.items) c.in_ok-header.ensures c.in_ok-statements.ensures) j;
+          refl (ap (λ v. v.items) c.replace-around.ensures.after ∙ c.new.ensures.items) c.in_ok-header.ensures
+          (c.in_ok-statements.ensures ∙ ap (λ (e : Bool). stmts_behind (setting_of c.args.known.now) (names_of c.args.known.now) c.args.number false e (stmts (map stmt_of c.args.all.now)) (onward c.header.new.out)) c.statements-exports.ensures)) j;
+      places = (c.new-3.ensures ∙ c.in_ok-places.ensures ∙ places_made (setting_of c.args.known.now) c.args.out.now.at (option_map header_of c.args.h.now) (stmts (map stmt_of c.args.all.now)) c.statements-exports.result c.statements-exports.ensures) j;
     }
 
 pub body-returns-clause-walk : goal.body-returns-clause-walk
 body-returns-clause-walk t c =
     body-walk-made (setting_of c.args.known.now) (names_of c.args.known.now) c.args.out.now (record { at = c.args.out.now.at; code = c.replace-around.new.dest; blocks = c.args.out.now.blocks }) c.header.new.out c.statements.new.out c.args.number (option_map header_of c.args.h.now) (stmts (map stmt_of c.args.all.now))
     (record { at = c.statements.new.out.at; code = c.replace-code.new.dest; blocks = c.statements.new.out.blocks })
-    refl refl c.in_ok-header.ensures c.in_ok-statements.ensures refl refl (ap (λ v. v.items) (c.replace-code.ensures.after ∙ c.replace-around.ensures.value))
+    refl refl c.in_ok-header.ensures
+    (c.in_ok-statements.ensures ∙ ap (λ (e : Bool). stmts_behind (setting_of c.args.known.now) (names_of c.args.known.now) c.args.number false e (stmts (map stmt_of c.args.all.now)) (onward c.header.new.out)) c.statements-exports.ensures)
+    refl refl (ap (λ v. v.items) (c.replace-code.ensures.after ∙ c.replace-around.ensures.value))
 
 pub unstarted-returns-in_default : goal.unstarted-returns-in_default
 unstarted-returns-in_default t c = on_ok c.push.result _ _ _ c.push.ensures.walked (unstarted-none (setting_of c.args.known.now) (names_of c.args.known.now) c.args.inside c.args.all.now (walked c.args.out.now) (empty c.args.all.now c.in_default.ensures.cases))
@@ -135,12 +139,11 @@ unstarted-returns-in_ok-steps-in-Assign t c =
 pub statements-loop-s-preserved : goal.statements-loop-s-preserved
 statements-loop-s-preserved t c =
     let e : drop c.loop-s.s-index c.args.all.now ≡ c.s-item.result ∷ drop (c.loop-s.s-index + 1) c.args.all.now = drop-next c.args.all.now c.loop-s.s-index c.s-item.result (omega arith) c.s-item.is in
-    stmts-step (setting_of c.args.known.now) (names_of c.args.known.now) c.args.inside (drop c.loop-s.s-index c.args.all.now) (drop (c.loop-s.s-index + 1) c.args.all.now) c.s-item.result c.loop-s.left c.in_ok-left.left (stmts_export (stmts (map stmt_of c.args.all.now))) (onward c.loop-s.out) (onward c.statement.new.out) _ e c.in_ok-left.ensures.leaves c.in_ok-left.ensures.walk c.loop-s.invariant
+    stmts-step (setting_of c.args.known.now) (names_of c.args.known.now) c.args.inside (drop c.loop-s.s-index c.args.all.now) (drop (c.loop-s.s-index + 1) c.args.all.now) c.s-item.result c.loop-s.left c.in_ok-left.left c.args.exports (onward c.loop-s.out) (onward c.statement.new.out) _ e c.in_ok-left.ensures.leaves c.in_ok-left.ensures.walk c.loop-s.invariant
 
 pub statements-returns : goal.statements-returns
 statements-returns t c =
     on_ok c.end.result _ _ _ c.end.ensures
-    (ap (λ (e : Bool). append (ending c.loop-s.left e) (onward c.loop-s.out)) c.statements.ensures
-    ∙ stmts-end (setting_of c.args.known.now) (names_of c.args.known.now) c.args.inside c.loop-s.left (stmts_export (stmts (map stmt_of c.args.all.now))) (onward c.loop-s.out)
-    ∙ sym (at_drop_all (λ (ss : List CodeStmt). stmts_behind (setting_of c.args.known.now) (names_of c.args.known.now) c.args.inside c.loop-s.left (stmts_export (stmts (map stmt_of c.args.all.now))) (stmts (map stmt_of ss)) (onward c.loop-s.out)) c.args.all.now c.loop-s.s-index c.loop-s-test.false)
+    (stmts-end (setting_of c.args.known.now) (names_of c.args.known.now) c.args.inside c.loop-s.left c.args.exports (onward c.loop-s.out)
+    ∙ sym (at_drop_all (λ (ss : List CodeStmt). stmts_behind (setting_of c.args.known.now) (names_of c.args.known.now) c.args.inside c.loop-s.left c.args.exports (stmts (map stmt_of ss)) (onward c.loop-s.out)) c.args.all.now c.loop-s.s-index c.loop-s-test.false)
     ∙ c.loop-s.invariant)

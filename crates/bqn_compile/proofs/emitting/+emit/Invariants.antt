@@ -1,5 +1,4 @@
 use Rattle.std.proofs.Common.{◌≡◌, ◌++◌, false, length, map, reverse, drop}
-use Rattle.bqn_syntax.specs.blocks.Exporting.{stmts_export}
 use Rattle.bqn_syntax.specs.grammar.Trees.{expr_of, part_of, step_of, use_of, derived_of, stmt_of, body_of, exprs, parts, steps, uses, deriveds, stmts, bodies}
 use Rattle.bqn_compile.specs.Blocks.{bodies_code}
 use Rattle.bqn_compile.specs.Walking.{setting_of, names_of, walked, onward, exprs_behind, parts_behind, steps_walk, uses_walk, deriveds_walk, stmts_behind, bodies_behind}
@@ -24,7 +23,7 @@ invariant-deriveds-loop-d l = record {
 }
 
 abbrev pub invariant-statements-loop-s : goal.invariant-statements-loop-s
-invariant-statements-loop-s l = stmts_behind (setting_of l.known) (names_of l.known) l.inside l.left (stmts_export (stmts (map stmt_of l.all))) (stmts (map stmt_of (drop l.s-index l.all))) (onward l.out) ≡ stmts_behind (setting_of l.known) (names_of l.known) l.inside false (stmts_export (stmts (map stmt_of l.all))) (stmts (map stmt_of l.all)) (onward l.initial.out)
+invariant-statements-loop-s l = stmts_behind (setting_of l.known) (names_of l.known) l.inside l.left l.exports (stmts (map stmt_of (drop l.s-index l.all))) (onward l.out) ≡ stmts_behind (setting_of l.known) (names_of l.known) l.inside false l.exports (stmts (map stmt_of l.all)) (onward l.initial.out)
 
 abbrev pub invariant-bodies-loop-b : goal.invariant-bodies-loop-b
 invariant-bodies-loop-b l = record {

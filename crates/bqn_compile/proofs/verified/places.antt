@@ -1,0 +1,4 @@
+-- The places of the instructions of translated code.
+pub mod PlacedCodes
+pub mod Placing
+pub mod PlacesKept
