@@ -5,7 +5,8 @@ use Rattle.bqn_rows.specs.Running.{Res, Gives, Ends}
 use Rattle.bqn_syntax.specs.grammar.Trees.{Stmts}
 use Rattle.bqn_syntax.specs.blocks.Blocks.{Earlier}
 use Rattle.bqn_meaning.specs.Environments.{State}
-use Rattle.bqn_meaning.specs.Meaning.{line, Evaluated, Answers, Faults, IsSpent, evaluated}
+use Rattle.bqn_meaning.specs.Sessions.{line}
+use Rattle.bqn_meaning.specs.Programs.{Evaluated, Answers, Faults, IsSpent, evaluated}
 
 -- more may be written, and fewer steps are left
 pub record Follows (old new : State) : Type 0 where

@@ -33,6 +33,10 @@ module _ {X S : Type 0} (replies : Replies X S) (enter : (block environment : �
   run (Write text go) s = then_do (replies.write text s) (λ u. run (go u))
   run (Inside t go) s = then_do (inner t s) (λ r. run (go r))
 
+-- how many calls may be open in an evaluation
+abbrev pub open_calls : ℕ
+open_calls = 1000
+
 -- a call where at most so many may be open inside it; one more is TooDeep
 abbrev pub calls : {X S : Type 0} → Replies X S → (room : ℕ) → Runs X S
 calls replies zero = run replies (λ block environment operands arguments s. Gives (Err (unplaced TooDeep)) s) (λ t s. Gives (Err (unplaced TooDeep)) s)

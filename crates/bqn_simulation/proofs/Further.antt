@@ -11,7 +11,7 @@ use Rattle.bqn_syntax.specs.blocks.Blocks as source
 use Rattle.bqn_syntax.specs.blocks.Blocks.{Earlier, all_bodies, further, behind as behind_lines, line_scope, line_body, scopes_of}
 use Rattle.bqn_syntax.specs.scope.Bodies.{BodyNames, Resolution, body_names, inside}
 use Rattle.bqn_meaning.specs.Frames.{Setting}
-use Rattle.bqn_meaning.specs.Meaning.{names_before}
+use Rattle.bqn_meaning.specs.Sessions.{names_before, line_setting}
 use Rattle.bqn_code.specs.declared.code.Body.{Body}
 use Rattle.bqn_code.specs.declared.code.Block.{Block}
 use Rattle.bqn_code.specs.Plain.{Code}
@@ -205,7 +205,7 @@ module _ (e : Earlier) (t : Table) (s : Session e t) (ss : Stmts) (tokens : List
 
   module _ (args : Value) where
     abbrev g : Setting
-    g = record { blocks = source.table_of e ss; args = args }
+    g = line_setting e args ss
 
     top_fits : BodyFits all t' g here 0 (line_body e ss) main
     top_fits = record {

@@ -8,8 +8,8 @@ use Rattle.bqn_base.specs.declared.refusal.Refusal.{Refusal}
 use Rattle.bqn_base.specs.Places.{first_of}
 use Rattle.bqn_rows.specs.Raised.{Raised}
 use Rattle.bqn_meaning.specs.Environments.{look, define, change}
-use Rattle.bqn_meaning.specs.Meaning as m
-use Rattle.bqn_meaning.specs.Meaning.{evaluated_within}
+use Rattle.bqn_meaning.specs.Programs as m
+use Rattle.bqn_meaning.specs.Programs.{evaluated_within}
 use Rattle.bqn_code.specs.declared.instr.Instr.{Instr}
 use Rattle.bqn_code.specs.declared.instr.Instr.TheVariants as i
 use Rattle.bqn_code.specs.Plain.{Code}
