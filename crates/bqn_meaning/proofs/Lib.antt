@@ -1,2 +1,3 @@
 pub mod advancing
 mod MeaningSamples
+pub mod BlockNumbers

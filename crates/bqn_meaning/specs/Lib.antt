@@ -6,4 +6,5 @@ pub mod Deriving
 pub mod Meaning
 pub mod Sessions
 pub mod Programs
+pub mod BlockNumbers
 pub mod Advancing
