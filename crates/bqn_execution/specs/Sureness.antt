@@ -18,4 +18,5 @@ Sure (Ends (Sticks u)) = ⊥
 
 -- a verified code behind verified codes, whatever is kept of their run
 abbrev pub VerifiedCodeIsNeverStuck : Type 0
-VerifiedCodeIsNeverStuck = (room : ℕ) (args : Value) (kept : Kept) (code : Code) → All Verified kept.codes → Verified code → Sure (exec_within room args kept code)
+VerifiedCodeIsNeverStuck = (room : ℕ) (args : Value) (kept : Kept) (code : Code) →
+    All Verified kept.codes → Verified code → Sure (exec_within room args kept code)

@@ -33,7 +33,8 @@ pub record BeginsWith (front whole : List ℕ) : Type 0 where
 
 -- the same outcome and bytes; of one that is spent, the bytes so far
 abbrev pub GoesOnAs : (smaller larger : Evaluated) → Type 0
-GoesOnAs smaller larger = elim smaller.outcome [ IsSpent ↦ BeginsWith smaller.written larger.written | Answers v ↦ larger ≡ smaller | Faults f ↦ larger ≡ smaller ]
+GoesOnAs smaller larger =
+    elim smaller.outcome [ IsSpent ↦ BeginsWith smaller.written larger.written | Answers v ↦ larger ≡ smaller | Faults f ↦ larger ≡ smaller ]
 
 abbrev pub LargerBudgetsGoOn : Type 0
 LargerBudgetsGoOn = (ss : Stmts) (words : List (List ℕ)) (steps more : ℕ) → GoesOnAs (evaluated ss words steps) (evaluated ss words (steps + more))

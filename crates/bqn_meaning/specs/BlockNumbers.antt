@@ -74,13 +74,15 @@ module _ (blocks : List Block) where
     -- with these bodies, in each of which the blocks have their numbers too
     pub BodiesAre : (around : List Numbered) → Bodies → List Body → Type 0
     BodiesAre around no_bodies [] = Unit {0}
-    BodiesAre around (and_bodies (body h ss) ts) (b ∷ bs) = (b.header ≡ h) × (b.statements ≡ ss) × (b.around ≡ around) × StmtsNumbered (scopes_of b) ss b.inside × BodiesAre around ts bs
+    BodiesAre around (and_bodies (body h ss) ts) (b ∷ bs) =
+        (b.header ≡ h) × (b.statements ≡ ss) × (b.around ≡ around) × StmtsNumbered (scopes_of b) ss b.inside × BodiesAre around ts bs
     BodiesAre around _ _ = ⊥
 
 -- The blocks of a line have their numbers while it is evaluated, and while further lines are, which have another program and more blocks.
 pub record LineNumbered (earlier : Earlier) (ss : Stmts) : Type 0 where
   pub now : StmtsNumbered (table_of earlier ss) (scopes_of (line_body earlier ss)) ss (line_body earlier ss).inside
-  pub later : (program : Block) (more : List Block) → StmtsNumbered (program ∷ ((further earlier ss).blocks ++ more)) (scopes_of (line_body earlier ss)) ss (line_body earlier ss).inside
+  pub later : (program : Block) (more : List Block) →
+      StmtsNumbered (program ∷ ((further earlier ss).blocks ++ more)) (scopes_of (line_body earlier ss)) ss (line_body earlier ss).inside
 
 abbrev pub EvaluationsMeetTheirBlocks : Type 0
 EvaluationsMeetTheirBlocks = (earlier : Earlier) (ss : Stmts) → LineNumbered earlier ss

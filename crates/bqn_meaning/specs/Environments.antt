@@ -45,7 +45,8 @@ wrote text s = record s { written = s.written ++ encode_utf8_all text }
 
 -- an environment for this body within that one; it gets the next number
 abbrev pub within_new : {A : Type 0} → (body parent : ℕ) → (ℕ → Does A) → Does A
-within_new body parent next = λ s. next (length s.environments) (record s { environments = s.environments ++ record { body = body; parent = parent; variables = [] } ∷ [] })
+within_new body parent next =
+    λ s. next (length s.environments) (record s { environments = s.environments ++ record { body = body; parent = parent; variables = [] } ∷ [] })
 
 -- ---- look-ups
 

@@ -130,7 +130,8 @@ abbrev mutual
   fit g f a (Skip place) v = pure Fits
   fit g f a (Literal t) v = known (literal_fit (literal t.kind) v)
   fit g f a (ListPattern qs) v = taken_apart (λ xs. where_so Mismatch (all_fit g f a qs xs) (as_many qs xs)) (fields_fit g f a (names_in qs)) (pure Mismatch) v
-  fit g f a (StrandPattern qs) v = taken_apart (λ xs. where_so Mismatch (all_fit g f a qs xs) (as_many qs xs)) (fields_fit g f a (names_in qs)) (pure Mismatch) v
+  fit g f a (StrandPattern qs) v =
+      taken_apart (λ xs. where_so Mismatch (all_fit g f a qs xs) (as_many qs xs)) (fields_fit g f a (names_in qs)) (pure Mismatch) v
 
   pub all_fit : Setting → Frame → Arrow → Patterns → Values → Does Fit
   all_fit g f a (and_patterns q qs) (more x xs) = fit g f a q x >>= and_fit (all_fit g f a qs xs)

@@ -42,7 +42,9 @@ module _ (h : Calling) (g : Setting) (f : Frame) (l : Place) where
   -- each gives a value, or Nothing; the blocks in it are numbered from c on
   abbrev mutual
     pub eval_expr : Expr → (c : ℕ) → Does (Option plain.Value)
-    eval_expr (Value none (and_steps (Modify t d) ss)) c = present f t >>= (λ x. eval_derived d (c + (in_steps ss).blocks) >>= (λ k. at (or_else l (derived_lead d)) (applied h k None (Some x)) >>= changed_to f t >>= eval_steps ss c))
+    eval_expr (Value none (and_steps (Modify t d) ss)) c =
+        present f t >>= (λ x. eval_derived d (c + (in_steps ss).blocks) >>= (λ k. at (or_else l (derived_lead d)) (applied h k None (Some x))
+        >>= changed_to f t >>= eval_steps ss c))
     eval_expr (Value none ss) c = eval_steps ss c None
     eval_expr (Value (some x) ss) c = eval_part x (c + (in_steps ss).blocks) >>= eval_steps ss c
     eval_expr (Train targets ds) c = eval_deriveds ds c >>= (λ r. at (or_else l (deriveds_lead ds)) (known (train r)) >>= assigned f targets)
@@ -68,7 +70,8 @@ module _ (h : Calling) (g : Setting) (f : Frame) (l : Place) where
 
     -- the function before its left argument; `a F↩ x` reads `a` behind its function
     pub eval_step : Step → ℕ → Option plain.Value → Does (Option plain.Value)
-    eval_step (Apply d left) c v = eval_derived d (c + (in_maybe left).blocks) >>= (λ k. eval_maybe left c >>= (λ w. at (or_else l (derived_lead d)) (applied h k w v)))
+    eval_step (Apply d left) c v =
+        eval_derived d (c + (in_maybe left).blocks) >>= (λ k. eval_maybe left c >>= (λ w. at (or_else l (derived_lead d)) (applied h k w v)))
     eval_step (Assign q a) c v = at (or_else l (pattern_lead q)) (used v >>= (λ x. bind g f a q x >>= (λ u. pure (Some x))))
     eval_step (Modify t d) c v = eval_derived d c >>= (λ k. present f t >>= (λ w. at (or_else l (derived_lead d)) (applied h k (Some w) v) >>= changed_to f t))
 
@@ -83,12 +86,15 @@ module _ (h : Calling) (g : Setting) (f : Frame) (l : Place) where
     -- the right operand, the modifier, the left operand
     pub eval_use : Use → ℕ → (inside : Does (Option plain.Value)) → Does (Option plain.Value)
     eval_use (One m) c inside = eval_part m c >>= (λ n. inside >>= (λ x. at (or_else l (part_lead m)) (modified_one (class_of g.blocks) h n x)))
-    eval_use (Two m x) c inside = eval_part x (c + (in_part m).blocks) >>= (λ r. eval_part m c >>= (λ n. inside >>= (λ k. at (or_else l (part_lead m)) (modified_two (class_of g.blocks) h n k r))))
+    eval_use (Two m x) c inside =
+        eval_part x (c + (in_part m).blocks) >>= (λ r. eval_part m c >>= (λ n. inside
+            >>= (λ k. at (or_else l (part_lead m)) (modified_two (class_of g.blocks) h n k r))))
 
     -- the parts of a train from the right
     pub eval_deriveds : Deriveds → ℕ → Does Reading
     eval_deriveds no_deriveds c = pure Unread
-    eval_deriveds (and_deriveds d ds) c = eval_deriveds ds (c + (in_derived d).blocks) >>= (λ r. eval_derived d c >>= (λ v. at (or_else l (derived_lead d)) (known (and_part r v))))
+    eval_deriveds (and_deriveds d ds) c =
+        eval_deriveds ds (c + (in_derived d).blocks) >>= (λ r. eval_derived d c >>= (λ v. at (or_else l (derived_lead d)) (known (and_part r v))))
 
     pub eval_exprs : Exprs → ℕ → Does (List (Option plain.Value))
     eval_exprs no_exprs c = pure []
@@ -132,7 +138,8 @@ is_for _ _ = false
 
 -- where a body of a block of this class is run, in its environment
 abbrev pub frame_of : Entry → Class → Body → (environment : ℕ) → Frame
-frame_of e class b n = record { scopes = scopes_of b; environment = n; block = e.block; class = class; parent = e.outer; operands = e.operands; arguments = e.arguments }
+frame_of e class b n =
+    record { scopes = scopes_of b; environment = n; block = e.block; class = class; parent = e.outer; operands = e.operands; arguments = e.arguments }
 
 module _ (h : Calling) (g : Setting) where
   -- statements behind others, the last of which has this lead and gave this; an export alone gives Nothing
@@ -140,7 +147,9 @@ module _ (h : Calling) (g : Setting) where
   eval_stmts f no_stmts c p last = pure (EndsWith p last)
   eval_stmts f (and_stmts (Eval e) ss) c p last = eval_expr h g f (stmt_lead (Eval e)) e c >>= eval_stmts f ss (c + (in_expr e).blocks) (stmt_lead (Eval e))
   eval_stmts f (and_stmts (Predicate e) ss) c p last =
-      eval_expr h g f (stmt_lead (Predicate e)) e c >>= (λ v. at (stmt_lead (Predicate e)) (tested v) >>= where_so NextBody (eval_stmts f ss (c + (in_expr e).blocks) (stmt_lead (Predicate e)) None))
+      eval_expr h g f (stmt_lead (Predicate e)) e c
+          >>= (λ v. at (stmt_lead (Predicate e)) (tested v)
+          >>= where_so NextBody (eval_stmts f ss (c + (in_expr e).blocks) (stmt_lead (Predicate e)) None))
   eval_stmts f (and_stmts (Export q) ss) c p last = eval_stmts f ss c (stmt_lead (Export q)) None
 
   -- a body, where its header fits
@@ -165,7 +174,8 @@ module _ (h : Calling) (g : Setting) where
 -- what an evaluation does where a call asks: a turn takes a step
 abbrev pub replies : Setting → Replies State State
 replies g = record {
-  enter = λ room inner block outer operands xs. enter_block inner g (slice_get g.blocks block) (record { block = block; outer = outer; operands = operands; arguments = xs });
+  enter = λ room inner block outer operands xs.
+      enter_block inner g (slice_get g.blocks block) (record { block = block; outer = outer; operands = operands; arguments = xs });
   turn = stepped (λ s. Gives tt s);
   write = λ text s. Gives tt (wrote text s);
 }

@@ -24,9 +24,9 @@ use Rattle.bqn_execution.specs.Execution as e
 use Rattle.bqn_execution.specs.Programs as p
 use Rattle.bqn_compile.proofs.verified.Fronts.{same_equal, same_itself}
 use Rattle.bqn_simulation.specs.Views.{slots, view, onto, Same, Agree}
-use Rattle.bqn_simulation.proofs.Agree.{binds, pures, faults}
-use Rattle.bqn_simulation.proofs.Bodies.{ended, body_same}
-use Rattle.bqn_simulation.proofs.Calls.{BodyFits, Alike, shared, steps, calls_same}
+use Rattle.bqn_simulation.proofs.running.Agree.{binds, pures, faults}
+use Rattle.bqn_simulation.proofs.running.Bodies.{ended, body_same}
+use Rattle.bqn_simulation.proofs.running.Calls.{BodyFits, Alike, shared, steps, calls_same}
 
 -- ---- what a line declares has no value yet
 

@@ -29,12 +29,12 @@ use Rattle.bqn_compile.specs.Counting.{past, in_header}
 use Rattle.bqn_compile.specs.Expressions.{at_lead}
 use Rattle.bqn_compile.specs.Bodies.{kind_code, put_header, put_stmts}
 use Rattle.bqn_simulation.specs.Views.{slots, view, onto, Same, Agree}
-use Rattle.bqn_simulation.proofs.Agree.{binds, faults, finds, ats}
-use Rattle.bqn_simulation.proofs.Look.{Linked, over}
-use Rattle.bqn_simulation.proofs.Fields.{Exporting}
-use Rattle.bqn_simulation.proofs.Expressions.{IsPlaced, Shared}
-use Rattle.bqn_simulation.proofs.Told.{HeaderTold, StmtsTold}
-use Rattle.bqn_simulation.proofs.Bodies.{ended, body_same}
+use Rattle.bqn_simulation.proofs.running.Agree.{binds, faults, finds, ats}
+use Rattle.bqn_simulation.proofs.running.Variables.{Linked, over}
+use Rattle.bqn_simulation.proofs.running.Fields.{Exporting}
+use Rattle.bqn_simulation.proofs.running.Expressions.{IsPlaced, Shared}
+use Rattle.bqn_simulation.proofs.running.Told.{HeaderTold, StmtsTold}
+use Rattle.bqn_simulation.proofs.running.Bodies.{ended, body_same}
 
 -- ---- what the tables share
 

@@ -50,15 +50,15 @@ use Rattle.bqn_compile.specs.Pools.{constant_number, name_number, seen_at}
 use Rattle.bqn_compile.specs.Expressions as code
 use Rattle.bqn_compile.specs.Expressions.{at_lead, leaf_instr, special_instr, system_instr, block_instr, target_instr, parts_read, and_one, put_fork, put_atop, how_many_exprs, how_many_parts, derive_instr}
 use Rattle.bqn_simulation.specs.Views.{view, Same, Agree}
-use Rattle.bqn_simulation.proofs.Agree.{binds, pures, faults, knows, uses, gives, ats, Only, only_pure, only_known, only_at, only_bind, only_any}
-use Rattle.bqn_simulation.proofs.Acts.{push, as_is, Side, Acts, seq, framed, still, recoded, treed, grouped, nested, single, single_value, seq3, mapped, seq_where}
+use Rattle.bqn_simulation.proofs.running.Agree.{binds, pures, faults, knows, uses, gives, ats, Only, only_pure, only_known, only_at, only_bind, only_any}
+use Rattle.bqn_simulation.proofs.running.Acts.{push, as_is, Side, Acts, seq, framed, still, recoded, treed, grouped, nested, single, single_value, seq3, mapped, seq_where}
 use Rattle.bqn_compile.proofs.verified.Fronts.{some_same}
-use Rattle.bqn_simulation.proofs.Look.{Linked, over, looks, changes, defines}
-use Rattle.bqn_simulation.proofs.Stacks.{pile, taken_all, Shaped, laid, shaped_more}
-use Rattle.bqn_simulation.proofs.Places.{token_blocks, targets_blocks, expr_same, part_same, steps_same, derived_same, use_same}
-use Rattle.bqn_simulation.proofs.Fields.{Exporting, field_same}
-use Rattle.bqn_simulation.proofs.Patterns.{bind_same}
-use Rattle.bqn_simulation.proofs.Told as told
+use Rattle.bqn_simulation.proofs.running.Variables.{Linked, over, looks, changes, defines}
+use Rattle.bqn_simulation.proofs.running.Stacks.{pile, taken_all, Shaped, laid, shaped_more}
+use Rattle.bqn_simulation.proofs.running.BlockCounts.{token_blocks, targets_blocks, expr_same, part_same, steps_same, derived_same, use_same}
+use Rattle.bqn_simulation.proofs.running.Fields.{Exporting, field_same}
+use Rattle.bqn_simulation.proofs.running.Patterns.{bind_same}
+use Rattle.bqn_simulation.proofs.running.Told as told
 
 -- the blocks of a code have their classes in the table
 abbrev pub IsPlaced : Table → Placed → Type 0

@@ -29,25 +29,25 @@ use Rattle.bqn_compile.proofs.verified.Fronts.{front_same, front_more, front_at,
 use Rattle.bqn_compile.proofs.verified.BlockCounts.{stmts_counts}
 use Rattle.bqn_compile.proofs.verified.Seeing.{inside_front}
 use Rattle.bqn_compile.proofs.verified.Items.{EachItem, stmts_items}
-use Rattle.bqn_simulation.proofs.Look.{Distinct}
-use Rattle.bqn_simulation.proofs.Named as named
-use Rattle.bqn_simulation.proofs.BodyCounts.{stmts_many}
-use Rattle.bqn_simulation.proofs.Tells.{ItemPooled}
-use Rattle.bqn_simulation.proofs.Zips.{BlocksMatch}
-use Rattle.bqn_simulation.proofs.OneLine.{Resolved, resolved_is, blocks_match, top_told}
-use Rattle.bqn_simulation.proofs.Pools.{items_pooled, mentions_exported}
-use Rattle.bqn_simulation.proofs.Exported.{AllExported}
-use Rattle.bqn_simulation.proofs.Linking.{Tabled, linked, distinct_behind}
-use Rattle.bqn_simulation.proofs.Tables.{tail, here_of, blocks_behind, bodies_behind}
-use Rattle.bqn_simulation.proofs.Told.{StmtsTold}
-use Rattle.bqn_simulation.proofs.Expressions.{IsPlaced}
-use Rattle.bqn_simulation.proofs.Fields.{Exporting}
-use Rattle.bqn_simulation.proofs.Calls.{BodyFits, Fits}
-use Rattle.bqn_simulation.proofs.Fitting.{known_fit}
-use Rattle.bqn_simulation.proofs.Lines.{Grows, NoneHere, LineFits}
-use Rattle.bqn_simulation.proofs.Exports.{names_at as names_of_body, FoundAt, all_there, all_not_there}
-use Rattle.bqn_simulation.proofs.Indexed.{Pair, AllPairs, pairs_append, pairs_length, bodies_append, AllIndexed, blocks_indexed, Found, found, to_pairs, many_placed}
-use Rattle.bqn_simulation.proofs.Session.{tabled, is_placed, all_known, gained, CodeKnown, Grown, AllOld, old_stay, old_append, old_length, placed_old}
+use Rattle.bqn_simulation.proofs.running.Variables.{Distinct}
+use Rattle.bqn_simulation.proofs.standing.Named as named
+use Rattle.bqn_simulation.proofs.standing.MentionedBodies.{stmts_many}
+use Rattle.bqn_simulation.proofs.standing.Tells.{ItemPooled}
+use Rattle.bqn_simulation.proofs.standing.Zips.{BlocksMatch}
+use Rattle.bqn_simulation.proofs.standing.OneLine.{Resolved, resolved_is, blocks_match, top_told}
+use Rattle.bqn_simulation.proofs.standing.Pools.{items_pooled, mentions_exported}
+use Rattle.bqn_simulation.proofs.standing.Exported.{AllExported}
+use Rattle.bqn_simulation.proofs.standing.Linking.{Tabled, linked, distinct_behind}
+use Rattle.bqn_simulation.proofs.standing.Tables.{tail, here_of, blocks_behind, bodies_behind}
+use Rattle.bqn_simulation.proofs.running.Told.{StmtsTold}
+use Rattle.bqn_simulation.proofs.running.Expressions.{IsPlaced}
+use Rattle.bqn_simulation.proofs.running.Fields.{Exporting}
+use Rattle.bqn_simulation.proofs.running.Calls.{BodyFits, Fits}
+use Rattle.bqn_simulation.proofs.standing.Fitting.{known_fit}
+use Rattle.bqn_simulation.proofs.running.Lines.{Grows, NoneHere, LineFits}
+use Rattle.bqn_simulation.proofs.standing.Exports.{names_at as names_of_body, FoundAt, all_there, all_not_there}
+use Rattle.bqn_simulation.proofs.standing.Indexed.{Pair, AllPairs, pairs_append, pairs_length, bodies_append, AllIndexed, blocks_indexed, Found, found, to_pairs, many_placed}
+use Rattle.bqn_simulation.proofs.standing.EarlierLines.{tabled, is_placed, all_known, gained, CodeKnown, Grown, AllOld, old_stay, old_append, old_length, placed_old}
 
 -- what is known behind some lines
 pub record Session (e : Earlier) (t : Table) : Type 0 where
