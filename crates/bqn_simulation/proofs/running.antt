@@ -5,6 +5,7 @@ pub mod Variables
 pub mod Told
 pub mod BlockCounts
 pub mod Stacks
+pub mod Shared
 pub mod Expressions
 pub mod Fields
 pub mod Patterns

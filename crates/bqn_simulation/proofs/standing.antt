@@ -4,6 +4,8 @@ pub mod MentionedUses
 pub mod Named
 pub mod MentionedBodies
 pub mod BodyCounts
+pub mod Punctuation
+pub mod HeaderArguments
 pub mod Tells
 pub mod Zips
 pub mod OneLine

@@ -32,7 +32,7 @@ use Rattle.bqn_simulation.specs.Views.{slots, view, onto, Same, Agree}
 use Rattle.bqn_simulation.proofs.running.Agree.{binds, faults, finds, ats}
 use Rattle.bqn_simulation.proofs.running.Variables.{Linked, over}
 use Rattle.bqn_simulation.proofs.running.Fields.{Exporting}
-use Rattle.bqn_simulation.proofs.running.Expressions.{IsPlaced, Shared}
+use Rattle.bqn_simulation.proofs.running.Shared.{IsPlaced, Shared}
 use Rattle.bqn_simulation.proofs.running.Told.{HeaderTold, StmtsTold}
 use Rattle.bqn_simulation.proofs.running.Bodies.{ended, body_same}
 

@@ -40,7 +40,7 @@ use Rattle.bqn_simulation.proofs.standing.Exported.{AllExported}
 use Rattle.bqn_simulation.proofs.standing.Linking.{Tabled, linked, distinct_behind}
 use Rattle.bqn_simulation.proofs.standing.Tables.{tail, here_of, blocks_behind, bodies_behind}
 use Rattle.bqn_simulation.proofs.running.Told.{StmtsTold}
-use Rattle.bqn_simulation.proofs.running.Expressions.{IsPlaced}
+use Rattle.bqn_simulation.proofs.running.Shared.{IsPlaced}
 use Rattle.bqn_simulation.proofs.running.Fields.{Exporting}
 use Rattle.bqn_simulation.proofs.running.Calls.{BodyFits, Fits}
 use Rattle.bqn_simulation.proofs.standing.Fitting.{known_fit}
