@@ -1,23 +1,11 @@
 -- Each block stands in the table at the number by which evaluations ask for it.
-use Rattle.std.proofs.Common.{◌≡◌, ℕ, zero, suc, ◌+◌, List, [], ◌∷◌, ◌++◌, length, slice_get, Some, refl, sym, subst, arith}
-use Rattle.std.proofs.lemmas.Option.{none-some}
+use Rattle.std.proofs.Common.{◌≡◌, ℕ, suc, ◌+◌, List, [], ◌∷◌, ◌++◌, length, slice_get, Some, refl, sym, subst, arith}
 use Rattle.bqn_syntax.specs.grammar.Trees.{Expr, Value, Train, Modifier, Use, One, Two, Part, Leaf, Elements, Merge, Paren, Block as Braces, Field, Strand, Nothing, Step, Apply, Assign, Modify, Eval, Predicate, Export, BlockTree, block, body, Derived, derived, MaybePart, none, some, Bodies, no_bodies, and_bodies, Exprs, no_exprs, and_exprs, Uses, no_uses, and_uses, Parts, no_parts, and_parts, Steps, no_steps, and_steps, Stmts, no_stmts, and_stmts, Deriveds, no_deriveds, and_deriveds}
 use Rattle.bqn_syntax.specs.blocks.Counting.{Count, past, in_expr, in_part, in_maybe, in_steps, in_derived, in_use, in_stmt, in_body}
 use Rattle.bqn_syntax.specs.blocks.Blocks.{Numbered, numbered, Block, and_plain, plain_in, bodies_of, block_of, opened, expr_blocks, part_blocks, blocks_from, maybe_blocks, steps_blocks, step_blocks, derived_blocks, uses_blocks, use_blocks, deriveds_blocks, exprs_blocks, parts_blocks, stmts_blocks, bodies_blocks, scopes_of, Earlier, behind, line_body, further, table_of}
 use Rattle.bqn_syntax.proofs.BlockNumbers.{Numbers, expr-numbers, part-numbers, maybe-numbers, steps-numbers, derived-numbers, use-numbers, body-numbers}
+use Rattle.bqn_meaning.proofs.Lists.{at_front, at_same, at_back}
 use Rattle.bqn_meaning.specs.BlockNumbers.{ExprNumbered, PartNumbered, MaybeNumbered, StepsNumbered, StepNumbered, DerivedNumbered, UsesNumbered, UseNumbered, DerivedsNumbered, ExprsNumbered, PartsNumbered, StmtsNumbered, BlockIs, BodiesAre, EvaluationsMeetTheirBlocks}
-
-get_front : (xs ys : List Block) (j : ℕ) (b : Block) → slice_get xs j ≡ Some b → slice_get (xs ++ ys) j ≡ Some b
-get_front [] ys j b h = absurd (none-some b h)
-get_front (x ∷ xs) ys zero b h = h
-get_front (x ∷ xs) ys (suc j) b h = get_front xs ys j b h
-
-get_at : (xs : List Block) (i j : ℕ) (b : Block) → i ≡ j → slice_get xs i ≡ Some b → slice_get xs j ≡ Some b
-get_at xs i j b q h = subst (λ (n : ℕ). slice_get xs n ≡ Some b) q h
-
-get_back : (xs ys : List Block) (j : ℕ) (b : Block) → slice_get ys j ≡ Some b → slice_get (xs ++ ys) (length xs + j) ≡ Some b
-get_back [] ys j b h = get_at ys j (0 + j) b (omega arith) h
-get_back (x ∷ xs) ys j b h = get_at (x ∷ (xs ++ ys)) (suc (length xs + j)) (suc (length xs) + j) b (omega arith) (get_back xs ys j b h)
 
 none_more : (n : ℕ) → n + 0 ≡ n
 none_more n = omega arith
@@ -29,13 +17,13 @@ module _ (blocks : List Block) where
     there : (j : ℕ) (b : Block) → slice_get xs j ≡ Some b → slice_get blocks (k + j) ≡ Some b
 
   all_stand : Stand 0 blocks
-  all_stand = record { there = λ (j : ℕ) (b : Block) h. get_at blocks j (0 + j) b (omega arith) h }
+  all_stand = record { there = λ (j : ℕ) (b : Block) h. at_same blocks j (0 + j) b (omega arith) h }
 
   stand_front : (k : ℕ) (xs ys : List Block) → Stand k (xs ++ ys) → Stand k xs
-  stand_front k xs ys s = record { there = λ (j : ℕ) (b : Block) h. s.there j b (get_front xs ys j b h) }
+  stand_front k xs ys s = record { there = λ (j : ℕ) (b : Block) h. s.there j b (at_front xs ys j b h) }
 
   stand_back : (k i : ℕ) (xs ys : List Block) → k + length xs ≡ i → Stand k (xs ++ ys) → Stand i ys
-  stand_back k i xs ys q s = record { there = λ (j : ℕ) (b : Block) h. get_at blocks (k + (length xs + j)) (i + j) b (omega (arith, q)) (s.there (length xs + j) b (get_back xs ys j b h)) }
+  stand_back k i xs ys q s = record { there = λ (j : ℕ) (b : Block) h. at_same blocks (k + (length xs + j)) (i + j) b (omega (arith, q)) (s.there (length xs + j) b (at_back xs ys j b h)) }
 
   stand_past : (so c : Count) (xs ys : List Block) → Numbers so xs c → Stand so.blocks (xs ++ ys) → Stand (past so c).blocks ys
   stand_past so c xs ys n s = stand_back so.blocks (so.blocks + c.blocks) xs ys (omega (arith, n.blocks)) s
@@ -59,7 +47,7 @@ module _ (blocks : List Block) where
     block_numbered : (a : List Numbered) (b : BlockTree) (so : Count) → Stand so.blocks (blocks_from a b so) → BlockIs blocks a b (slice_get blocks so.blocks)
     block_numbered a (block place class bs) so s =
         let inner : Stand (suc so.blocks) (bodies_blocks a so.bodies bs (opened bs so)) = stand_back so.blocks (suc so.blocks) (block_of a class bs so ∷ []) (bodies_blocks a so.bodies bs (opened bs so)) (omega arith) s in
-        subst (BlockIs blocks a (block place class bs)) (sym (get_at blocks (so.blocks + 0) so.blocks (block_of a class bs so) (omega arith) (s.there 0 (block_of a class bs so) refl)))
+        subst (BlockIs blocks a (block place class bs)) (sym (at_same blocks (so.blocks + 0) so.blocks (block_of a class bs so) (omega arith) (s.there 0 (block_of a class bs so) refl)))
         (refl, bodies_numbered a (plain_in bs) 0 so.bodies bs (opened bs so) inner)
 
     bodies_numbered : (a : List Numbered) (plain before number : ℕ) (bs : Bodies) (so : Count) → Stand so.blocks (bodies_blocks a number bs so) → BodiesAre blocks a bs (bodies_of plain before a number so.blocks bs)
