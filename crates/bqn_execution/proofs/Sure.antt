@@ -317,8 +317,8 @@ module _ (t : Table) (args : Value) (h : Calling) (hs : (c : Call) → AllSure (
       by : AllSure others → IsTrue (is_sound t b.here body) → (meant : Bool) → AllSure (elim meant [ true ↦ e.tried t args h b x others number body | false ↦ others ])
       by sure own true =
           stepped_sure (e.within_new number body.slots x.outer (λ n. ran n >>= e.or_else others)) (within_sure number body.slots x.outer (λ n. ran n >>= e.or_else others) (λ n. bind_sure (ran n) _
-              (exec_sure t args h hs (e.frame_of b x number n) body.code body.places [] (and_left (list_all (has_object t b.here) body.code) _ own) (and_right (list_all (has_object t b.here) body.code) _ own))
-              (or_else_sure others sure)))
+          (exec_sure t args h hs (e.frame_of b x number n) body.code body.places [] (and_left (list_all (has_object t b.here) body.code) _ own) (and_right (list_all (has_object t b.here) body.code) _ own))
+          (or_else_sure others sure)))
       by sure own false = sure
 
 then_sure : {A B : Type 0} (r : Res Halted State A) (go : A → State → Res Halted State B) → Sure r → ((x : A) (s : State) → Sure (go x s)) → Sure (then_do r go)

@@ -64,7 +64,7 @@ module _ (t : Table) (args : Value) (h : Calling) (f : Frame) where
   act (instr.Bind k) p next st = with_pattern (slice_get f.here.code.patterns k) (λ q. one (λ x. pushed p (stays (bind t f q) x) next) st)
   act (instr.Match k) p next st =
       with_pattern (slice_get f.here.code.patterns k)
-          (λ q. one (λ x rest. at p (used x >>= (λ v. fit t f q v >>= (λ r. pure (does_fit r)))) >>= where_so NextBody (next rest)) st)
+      (λ q. one (λ x rest. at p (used x >>= (λ v. fit t f q v >>= (λ r. pure (does_fit r)))) >>= where_so NextBody (next rest)) st)
   act instr.Check p next st = one (λ x rest. at p (tested x) >>= where_so NextBody (next rest)) st
   act instr.Left p next st = next (left_of f.arguments ∷ st)
   act instr.Right p next st = next (right_of f.arguments ∷ st)
@@ -97,13 +97,21 @@ or_else others (EndsWith p x) = at p (used x)
 abbrev pub within_new : {A : Type 0} → (body slots parent : ℕ) → (ℕ → Does A) → Does A
 within_new body slots parent next =
     λ s. next (length s.environments)
-        (record s { environments = s.environments ++ record { body = body; parent = parent; variables = replicate slots None } ∷ [] })
+    (record s { environments = s.environments ++ record { body = body; parent = parent; variables = replicate slots None } ∷ [] })
 
 -- where the body with this number among all bodies is run, in its environment
 abbrev pub frame_of : BlockAt → Entry → (body environment : ℕ) → Frame
 frame_of b e body n =
-    record { here = b.here; block = e.block; class = b.block.class; body = body;
-        environment = n; outer = e.outer; operands = e.operands; arguments = e.arguments }
+    record {
+      here = b.here;
+      block = e.block;
+      class = b.block.class;
+      body = body;
+      environment = n;
+      outer = e.outer;
+      operands = e.operands;
+      arguments = e.arguments;
+    }
 
 -- a block that is run
 module _ (t : Table) (args : Value) (h : Calling) (b : BlockAt) (e : Entry) where

@@ -88,7 +88,7 @@ module _ (h : Calling) (g : Setting) (f : Frame) (l : Place) where
     eval_use (One m) c inside = eval_part m c >>= (λ n. inside >>= (λ x. at (or_else l (part_lead m)) (modified_one (class_of g.blocks) h n x)))
     eval_use (Two m x) c inside =
         eval_part x (c + (in_part m).blocks) >>= (λ r. eval_part m c >>= (λ n. inside
-            >>= (λ k. at (or_else l (part_lead m)) (modified_two (class_of g.blocks) h n k r))))
+        >>= (λ k. at (or_else l (part_lead m)) (modified_two (class_of g.blocks) h n k r))))
 
     -- the parts of a train from the right
     pub eval_deriveds : Deriveds → ℕ → Does Reading
@@ -148,8 +148,8 @@ module _ (h : Calling) (g : Setting) where
   eval_stmts f (and_stmts (Eval e) ss) c p last = eval_expr h g f (stmt_lead (Eval e)) e c >>= eval_stmts f ss (c + (in_expr e).blocks) (stmt_lead (Eval e))
   eval_stmts f (and_stmts (Predicate e) ss) c p last =
       eval_expr h g f (stmt_lead (Predicate e)) e c
-          >>= (λ v. at (stmt_lead (Predicate e)) (tested v)
-          >>= where_so NextBody (eval_stmts f ss (c + (in_expr e).blocks) (stmt_lead (Predicate e)) None))
+      >>= (λ v. at (stmt_lead (Predicate e)) (tested v)
+      >>= where_so NextBody (eval_stmts f ss (c + (in_expr e).blocks) (stmt_lead (Predicate e)) None))
   eval_stmts f (and_stmts (Export q) ss) c p last = eval_stmts f ss c (stmt_lead (Export q)) None
 
   -- a body, where its header fits

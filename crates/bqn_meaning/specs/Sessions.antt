@@ -49,7 +49,8 @@ abbrev pub line_answer : Body → Ending → Does (Option Value)
 line_answer b NextBody = fault NoBody
 line_answer b (EndsWith p v) = pure (body_answer b (line_frame b) v)
 
--- a line in the top environment, which is the environment 0; so many calls may be open
+-- A line in the top environment, which is the environment 0; so many calls may be open. It takes a step: a session passes over lines
+-- without statements.
 abbrev pub line : (room : ℕ) → Earlier → (args : Value) → Stmts → Does (Option Value)
 line room earlier args ss =
     let g : Setting = line_setting earlier args ss in
