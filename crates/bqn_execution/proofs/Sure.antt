@@ -6,7 +6,7 @@ use Rattle.bqn_base.specs.declared.fault.Fault.{Fault}
 use Rattle.bqn_rows.specs.Plain.{Value, Number, Character, Array, Given, Derived, Function, Modifier1, Modifier2, Namespace, Values, none, more, count, is_given}
 use Rattle.bqn_base.specs.declared.place.Place.{Place}
 use Rattle.bqn_base.specs.Places.{nowhere}
-use Rattle.bqn_rows.specs.Raised.{Raised, Answer, unplaced, placed}
+use Rattle.bqn_rows.specs.Raised.{Answer, unplaced, placed}
 use Rattle.bqn_rows.specs.Relations.{both}
 use Rattle.bqn_rows.specs.Calls.{Arguments, Call, End, Enter, Turn, Write, Inside, call}
 use Rattle.bqn_rows.specs.Running.{Res, Gives, Ends, then_do, run}
@@ -14,7 +14,7 @@ use Rattle.bqn_base.specs.declared.fault.Fault.TheVariants.{Undefined, TooDeep}
 use Rattle.bqn_syntax.specs.declared.tree.Class.{Class}
 use Rattle.bqn_syntax.specs.declared.tree.Class.TheVariants as class
 use Rattle.bqn_meaning.specs.Actions.{at, go_on, ◌>>=◌, pure, known, found, used, where_so}
-use Rattle.bqn_meaning.specs.Frames.{left_of, right_of, left_operand, right_operand, modifier_of}
+use Rattle.bqn_meaning.specs.Frames.{Entry, left_of, right_of, left_operand, right_operand, modifier_of}
 use Rattle.bqn_meaning.specs.Matching.{Fit, Fits, Mismatch, Missing, and_fit, must_fit, does_fit}
 use Rattle.bqn_meaning.specs.Deriving.{listed, with_one, with_two, modified_one, modified_two, atop, fork, applied}
 use Rattle.bqn_meaning.specs.Meaning.{Ending, NextBody, EndsWith, truth, tested}
@@ -300,15 +300,26 @@ or_else_sure : (others : Does Value) → AllSure others → (r : Ending) → All
 or_else_sure others a NextBody = a
 or_else_sure others a (EndsWith p x) = at_sure p _ (found_sure _ x)
 
-module _ (t : Table) (args : Value) (h : Calling) (hs : (c : Call) → AllSure (h c)) (b : BlockAt) (block outer : ℕ) (operands : Values) (arguments : Arguments) where
-  tries_sure : (k : ℕ) (bodies : List Body) → IsTrue (list_all (is_sound t b.here) bodies) → AllSure (e.tries t args h b block outer operands arguments k bodies)
+module _ (t : Table) (args : Value) (h : Calling) (hs : (c : Call) → AllSure (h c)) (b : BlockAt) (x : Entry) where
+  tries_sure : (k : ℕ) (bodies : List Body) → IsTrue (list_all (is_sound t b.here) bodies) → AllSure (e.tries t args h b x k bodies)
   tries_sure k [] sound = λ s. tt
-  tries_sure k (body ∷ bodies) sound = by (tries_sure (suc k) bodies (and_right (is_sound t b.here body) _ sound)) (and_left (is_sound t b.here body) _ sound) (e.is_meant body.kind arguments)
+  tries_sure k (body ∷ bodies) sound = by (tries_sure (suc k) bodies (and_right (is_sound t b.here body) _ sound)) (and_left (is_sound t b.here body) _ sound) (e.is_meant body.kind x.arguments)
     where
-      by : AllSure (e.tries t args h b block outer operands arguments (suc k) bodies) → IsTrue (is_sound t b.here body) → (meant : Bool) →
-          AllSure (elim meant [ true ↦ e.tried t args h b block outer operands arguments (e.tries t args h b block outer operands arguments (suc k) bodies) (body_number b.here k) body | false ↦ e.tries t args h b block outer operands arguments (suc k) bodies ])
-      by others own true = stepped_sure (e.within_new (body_number b.here k) body.slots outer (λ n. e.exec t args h (e.frame t args h b block outer operands arguments (body_number b.here k) n) (e.placed_code body) [] >>= e.or_else (e.tries t args h b block outer operands arguments (suc k) bodies))) (within_sure (body_number b.here k) body.slots outer (λ n. e.exec t args h (e.frame t args h b block outer operands arguments (body_number b.here k) n) (e.placed_code body) [] >>= e.or_else (e.tries t args h b block outer operands arguments (suc k) bodies)) (λ n. bind_sure (e.exec t args h (e.frame t args h b block outer operands arguments (body_number b.here k) n) (e.placed_code body) []) _ (exec_sure t args h hs (e.frame t args h b block outer operands arguments (body_number b.here k) n) body.code body.places [] (and_left (list_all (has_object t b.here) body.code) _ own) (and_right (list_all (has_object t b.here) body.code) _ own)) (or_else_sure (e.tries t args h b block outer operands arguments (suc k) bodies) others)))
-      by others own false = others
+      others : Does Value
+      others = e.tries t args h b x (suc k) bodies
+
+      number : ℕ
+      number = body_number b.here k
+
+      ran : ℕ → Does Ending
+      ran n = e.exec t args h (e.frame_of b x number n) (e.placed_code body) []
+
+      by : AllSure others → IsTrue (is_sound t b.here body) → (meant : Bool) → AllSure (elim meant [ true ↦ e.tried t args h b x others number body | false ↦ others ])
+      by sure own true =
+          stepped_sure (e.within_new number body.slots x.outer (λ n. ran n >>= e.or_else others)) (within_sure number body.slots x.outer (λ n. ran n >>= e.or_else others) (λ n. bind_sure (ran n) _
+          (exec_sure t args h hs (e.frame_of b x number n) body.code body.places [] (and_left (list_all (has_object t b.here) body.code) _ own) (and_right (list_all (has_object t b.here) body.code) _ own))
+          (or_else_sure others sure)))
+      by sure own false = sure
 
 then_sure : {A B : Type 0} (r : Res Halted State A) (go : A → State → Res Halted State B) → Sure r → ((x : A) (s : State) → Sure (go x s)) → Sure (then_do r go)
 then_sure (Gives x u) go q a = a x u
@@ -323,17 +334,17 @@ run_sure t args enter inner a i (Turn go) = λ s. then_sure (stepped (λ u. Give
 run_sure t args enter inner a i (Write text go) = λ s. run_sure t args enter inner a i (go tt) (wrote text s)
 run_sure t args enter inner a i (Inside c go) = λ s. then_sure (inner c s) _ (i c s) (λ r u. run_sure t args enter inner a i (go r) u)
 
-entered_sure : (t : Table) (args : Value) → SoundTable t → (h : Calling) → ((c : Call) → AllSure (h c)) → (b n : ℕ) (fs : Values) (xs : Arguments) → AllSure (e.entered t args h (slice_get t.blocks b) b n fs xs)
-entered_sure t args sound h hs b n fs xs = by (slice_get t.blocks b) refl
+entered_sure : (t : Table) (args : Value) → SoundTable t → (h : Calling) → ((c : Call) → AllSure (h c)) → (x : Entry) → AllSure (e.entered t args h (slice_get t.blocks x.block) x)
+entered_sure t args sound h hs x = by (slice_get t.blocks x.block) refl
   where
-    by : (o : Option BlockAt) → slice_get t.blocks b ≡ o → AllSure (e.entered t args h o b n fs xs)
+    by : (o : Option BlockAt) → slice_get t.blocks x.block ≡ o → AllSure (e.entered t args h o x)
     by None q = λ s. tt
-    by (Some x) q = tries_sure t args h hs x b n fs xs x.first x.block.bodies (all_at (λ y. list_all (is_sound t y.here) y.block.bodies) t.blocks b x sound.blocks q)
+    by (Some b) q = tries_sure t args h hs b x b.first b.block.bodies (all_at (λ y. list_all (is_sound t y.here) y.block.bodies) t.blocks x.block b sound.blocks q)
 
 -- where each instruction finds its operands and its objects, no call is stuck
 pub runs_sure : (t : Table) (args : Value) → SoundTable t → (room : ℕ) (c : Call) → AllSure (e.runs t args room c)
 runs_sure t args sound zero c = run_sure t args (λ b n fs xs s. Gives (Err (unplaced TooDeep)) s) (λ c s. Gives (Err (unplaced TooDeep)) s) (λ b n fs xs s. tt) (λ c s. tt) c
-runs_sure t args sound (suc room) c = run_sure t args (λ b. e.entered t args (e.runs t args room) (slice_get t.blocks b) b) (e.runs t args room) (entered_sure t args sound (e.runs t args room) (runs_sure t args sound room)) (runs_sure t args sound room) c
+runs_sure t args sound (suc room) c = run_sure t args ((e.replies t args).enter room (e.runs t args room)) (e.runs t args room) (λ b n fs xs. entered_sure t args sound (e.runs t args room) (runs_sure t args sound room) (record { block = b; outer = n; operands = fs; arguments = xs })) (runs_sure t args sound room) c
 
 top_sure : (r : Ending) → AllSure (top_answer r)
 top_sure NextBody = λ s. tt

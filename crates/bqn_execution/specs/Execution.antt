@@ -4,11 +4,11 @@ use Rattle.std.specs.Prelude.{ℕ, zero, suc, Bool, true, false, List, [], ◌�
 use Rattle.bqn_base.specs.declared.fault.Fault.TheVariants.{Undefined, NoBody}
 use Rattle.bqn_base.specs.declared.place.Place.{Place}
 use Rattle.bqn_base.specs.Places.{nowhere}
-use Rattle.bqn_rows.specs.Plain.{Value, Function, Values, none}
+use Rattle.bqn_rows.specs.Plain.{Value, Function, none}
 use Rattle.bqn_rows.specs.Calls.{Arguments, alone, two}
 use Rattle.bqn_rows.specs.Running.{Gives, Replies, calls}
 use Rattle.bqn_meaning.specs.Actions.{at, ◌>>=◌, pure, fault, known, found, used, where_so}
-use Rattle.bqn_meaning.specs.Frames.{left_of, right_of, left_operand, right_operand, modifier_of}
+use Rattle.bqn_meaning.specs.Frames.{Entry, left_of, right_of, left_operand, right_operand, modifier_of}
 use Rattle.bqn_meaning.specs.Matching.{does_fit}
 use Rattle.bqn_meaning.specs.Deriving.{listed, modified_one, modified_two, atop, fork, applied}
 use Rattle.bqn_meaning.specs.Meaning.{Ending, NextBody, EndsWith, tested}
@@ -62,7 +62,9 @@ module _ (t : Table) (args : Value) (h : Calling) (f : Frame) where
   act instr.Train3 p next st = triple (λ e g k. pushed p (value (known (fork e g k))) next) st
   act (instr.Field k) p next st = one (λ x. pushed p (value (used x >>= field t (slice_get f.here.code.names k))) next) st
   act (instr.Bind k) p next st = with_pattern (slice_get f.here.code.patterns k) (λ q. one (λ x. pushed p (stays (bind t f q) x) next) st)
-  act (instr.Match k) p next st = with_pattern (slice_get f.here.code.patterns k) (λ q. one (λ x rest. at p (used x >>= (λ v. fit t f q v >>= (λ r. pure (does_fit r)))) >>= where_so NextBody (next rest)) st)
+  act (instr.Match k) p next st =
+      with_pattern (slice_get f.here.code.patterns k)
+      (λ q. one (λ x rest. at p (used x >>= (λ v. fit t f q v >>= (λ r. pure (does_fit r)))) >>= where_so NextBody (next rest)) st)
   act instr.Check p next st = one (λ x rest. at p (tested x) >>= where_so NextBody (next rest)) st
   act instr.Left p next st = next (left_of f.arguments ∷ st)
   act instr.Right p next st = next (right_of f.arguments ∷ st)
@@ -93,30 +95,45 @@ or_else others (EndsWith p x) = at p (used x)
 
 -- an environment for this body within that one, with variables that have no value yet; it gets the next number
 abbrev pub within_new : {A : Type 0} → (body slots parent : ℕ) → (ℕ → Does A) → Does A
-within_new body slots parent next = λ s. next (length s.environments) (record s { environments = s.environments ++ record { body = body; parent = parent; variables = replicate slots None } ∷ [] })
+within_new body slots parent next =
+    λ s. next (length s.environments)
+    (record s { environments = s.environments ++ record { body = body; parent = parent; variables = replicate slots None } ∷ [] })
 
--- a block that is run in an environment on operands and arguments
-module _ (t : Table) (args : Value) (h : Calling) (b : BlockAt) (block outer : ℕ) (operands : Values) (arguments : Arguments) where
-  -- where the body with this number among all bodies stands, in its environment
-  abbrev pub frame : (body environment : ℕ) → Frame
-  frame body environment = record { here = b.here; block = block; class = b.block.class; body = body; environment = environment; outer = outer; operands = operands; arguments = arguments }
+-- where the body with this number among all bodies is run, in its environment
+abbrev pub frame_of : BlockAt → Entry → (body environment : ℕ) → Frame
+frame_of b e body n =
+    record {
+      here = b.here;
+      block = e.block;
+      class = b.block.class;
+      body = body;
+      environment = n;
+      outer = e.outer;
+      operands = e.operands;
+      arguments = e.arguments;
+    }
 
+-- a block that is run
+module _ (t : Table) (args : Value) (h : Calling) (b : BlockAt) (e : Entry) where
   -- a body is tried, which takes a step, and perhaps others behind it
   abbrev pub tried : (others : Does Value) → (number : ℕ) → Body → Does Value
-  tried others number body = stepped (within_new number body.slots outer (λ n. exec t args h (frame number n) (placed_code body) [] >>= or_else others))
+  tried others number body =
+      stepped (within_new number body.slots e.outer (λ n. exec t args h (frame_of b e number n) (placed_code body) [] >>= or_else others))
 
   -- the bodies in order, the first with this number in its own code
   abbrev pub tries : ℕ → List Body → Does Value
   tries k [] = fault NoBody
-  tries k (body ∷ bodies) = elim (is_meant body.kind arguments) [ true ↦ tried (tries (suc k) bodies) (body_number b.here k) body | false ↦ tries (suc k) bodies ]
+  tries k (body ∷ bodies) =
+      elim (is_meant body.kind e.arguments) [ true ↦ tried (tries (suc k) bodies) (body_number b.here k) body | false ↦ tries (suc k) bodies ]
 
-abbrev pub entered : Table → (args : Value) → Calling → Option BlockAt → (block environment : ℕ) → Values → Arguments → Does Value
-entered t args h None _ _ _ _ = fault NoBody
-entered t args h (Some b) block environment operands on = tries t args h b block environment operands on b.first b.block.bodies
+abbrev pub entered : Table → (args : Value) → Calling → Option BlockAt → Entry → Does Value
+entered t args h None e = fault NoBody
+entered t args h (Some b) e = tries t args h b e b.first b.block.bodies
 
 abbrev pub replies : Table → (args : Value) → Replies Halted State
 replies t args = record {
-  enter = λ room h block. entered t args h (slice_get t.blocks block) block;
+  enter = λ room h block outer operands xs.
+      entered t args h (slice_get t.blocks block) (record { block = block; outer = outer; operands = operands; arguments = xs });
   turn = stepped (λ s. Gives tt s);
   write = λ text s. Gives tt (wrote text s);
 }

@@ -1,6 +1,6 @@
 -- How a value is taken apart by a pattern: BQN's pages on destructuring and on headers. A level that doesn't fit, or that asks for a
 -- missing field, is found before any part of it is stored; what was stored before that stays.
-use Rattle.std.specs.Prelude.{ℕ, suc, nat_eq, Bool, true, ◌&&◌, [], ◌∷◌, List, slice_get, is_some, Option, Some, None, Result, Ok}
+use Rattle.std.specs.Prelude.{ℕ, nat_eq, Bool, true, ◌&&◌, [], ◌∷◌, List, slice_get, is_some, Option, Some, None, Result, Ok}
 use Rattle.std.specs.Option.{option_and_then}
 use Rattle.bqn_base.specs.declared.fault.Fault.{Fault}
 use Rattle.bqn_rows.specs.Plain.{Value, Number, Character, Array, Namespace, Values, more, count}

@@ -5,7 +5,7 @@ use Rattle.bqn_rows.specs.Raised.{Raised}
 use Rattle.bqn_base.specs.declared.fault.Fault.TheVariants.{NoBody}
 use Rattle.bqn_rows.specs.Plain.{Value, Array, none, unfilled}
 use Rattle.bqn_rows.specs.Calls.{no_arguments}
-use Rattle.bqn_rows.specs.Running.{Gives, Ends}
+use Rattle.bqn_rows.specs.Running.{Gives, Ends, open_calls}
 use Rattle.bqn_syntax.specs.declared.tree.Class.TheVariants as class
 use Rattle.bqn_meaning.specs.Actions.{◌>>=◌, pure, fault}
 use Rattle.bqn_meaning.specs.Frames.{args_value}
@@ -70,12 +70,12 @@ exec_within room args kept code = run_all (table_of (codes_with kept code)) args
 abbrev pub no_words : Value
 no_words = Array (0 ∷ []) none unfilled
 
--- at most 1,000 calls are open at once
+-- a further line of a session
 abbrev pub exec_more : Kept → Code → Ran (Option Value)
-exec_more kept code = exec_within 1000 no_words kept code
+exec_more kept code = exec_within open_calls no_words kept code
 
 abbrev pub exec_on : Result Value Fault → Code → (steps : ℕ) → Ran (Option Value)
-exec_on (Ok args) code steps = exec_within 1000 args (fresh steps) code
+exec_on (Ok args) code steps = exec_within open_calls args (fresh steps) code
 exec_on (Err f) code steps = fault f (state_of (fresh steps))
 
 -- a code by itself; `•args` of these words is made before the first step

@@ -1,4 +1,6 @@
--- Code that is not stuck: this project's own.
+-- Code that is not stuck: each instruction finds its operands, and the constant, the pattern or the block that it names. A missing slot,
+-- a block behind a value or an operand outside a modifier shows as a fault instead; that none of these arises in a run of verified code
+-- is owed with the machine. This project's own.
 use Rattle.std.specs.Prelude.{ℕ}
 use Rattle.std.specs.List.{All}
 use Rattle.bqn_rows.specs.Plain.{Value}
@@ -16,4 +18,5 @@ Sure (Ends (Sticks u)) = ⊥
 
 -- a verified code behind verified codes, whatever is kept of their run
 abbrev pub VerifiedCodeIsNeverStuck : Type 0
-VerifiedCodeIsNeverStuck = (room : ℕ) (args : Value) (kept : Kept) (code : Code) → All Verified kept.codes → Verified code → Sure (exec_within room args kept code)
+VerifiedCodeIsNeverStuck = (room : ℕ) (args : Value) (kept : Kept) (code : Code) →
+    All Verified kept.codes → Verified code → Sure (exec_within room args kept code)

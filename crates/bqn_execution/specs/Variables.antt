@@ -45,9 +45,6 @@ abbrev pub place_at : Table → (body up environment : ℕ) → List Environment
 place_at t body zero n es = itself n (made_for body (slice_get es n))
 place_at t body (suc up) n es = at_parent (made_for body (slice_get es n)) (λ m. place_at t (parent_of t body) up m es)
 
-abbrev pub place : Table → Frame → (up : ℕ) → State → Option ℕ
-place t f up s = place_at t f.body up f.environment s.environments
-
 -- ---- reading
 
 abbrev pub variable_in : (slot : ℕ) → Environment → Option Value
@@ -55,13 +52,6 @@ variable_in slot e = option_and_then (λ v. v) (slice_get e.variables slot)
 
 abbrev pub variable : State → (slot environment : ℕ) → Option Value
 variable s slot n = option_and_then (variable_in slot) (slice_get s.environments n)
-
-abbrev pub value_at : Table → Frame → (up slot : ℕ) → State → Option Value
-value_at t f up slot s = option_and_then (variable s slot) (place t f up s)
-
--- the value of a variable so many bodies up
-abbrev pub load : Table → Frame → (up slot : ℕ) → Does Value
-load t f up slot = λ s. found Undefined (value_at t f up slot s) s
 
 -- ---- storing
 
@@ -76,16 +66,29 @@ abbrev pub put_at : Option ℕ → (slot : ℕ) → Value → List Environment �
 put_at None slot v es = es
 put_at (Some n) slot v es = put_in n slot v (slice_get es n) es
 
-abbrev pub stored : Table → Frame → (up slot : ℕ) → Value → State → State
-stored t f up slot v s = record s { environments = put_at (place t f up s) slot v s.environments }
+-- ---- variables so many bodies up
 
--- a variable of the body itself gets a value
-abbrev pub define : Table → Frame → (slot : ℕ) → Value → Does (Unit {0})
-define t f slot v = λ s. Gives (Ok tt) (stored t f 0 slot v s)
+module _ (t : Table) (f : Frame) where
+  abbrev pub place : (up : ℕ) → State → Option ℕ
+  place up s = place_at t f.body up f.environment s.environments
 
--- a variable that has a value gets another
-abbrev pub change : Table → Frame → (up slot : ℕ) → Value → Does (Unit {0})
-change t f up slot v = load t f up slot >>= (λ old s. Gives (Ok tt) (stored t f up slot v s))
+  abbrev pub value_at : (up slot : ℕ) → State → Option Value
+  value_at up slot s = option_and_then (variable s slot) (place up s)
+
+  -- the value of a variable
+  abbrev pub load : (up slot : ℕ) → Does Value
+  load up slot = λ s. found Undefined (value_at up slot s) s
+
+  abbrev pub stored : (up slot : ℕ) → Value → State → State
+  stored up slot v s = record s { environments = put_at (place up s) slot v s.environments }
+
+  -- a variable of the body itself gets a value
+  abbrev pub define : (slot : ℕ) → Value → Does (Unit {0})
+  define slot v = λ s. Gives (Ok tt) (stored 0 slot v s)
+
+  -- a variable that has a value gets another
+  abbrev pub change : (up slot : ℕ) → Value → Does (Unit {0})
+  change up slot v = load up slot >>= (λ old s. Gives (Ok tt) (stored up slot v s))
 
 -- ---- fields
 

@@ -1,2 +1,4 @@
 pub mod advancing
 mod MeaningSamples
+pub mod Lists
+pub mod BlockNumbers

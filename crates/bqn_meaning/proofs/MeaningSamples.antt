@@ -18,7 +18,9 @@ use Rattle.bqn_syntax.specs.scope.Bodies.{bodies_of}
 use Rattle.bqn_meaning.specs.Environments.{State, Ran, look, define, change}
 use Rattle.bqn_syntax.specs.blocks.Blocks.{Numbered, Earlier, no_lines, further, table_of, all_bodies}
 use Rattle.bqn_meaning.specs.Actions.{◌>>=◌}
-use Rattle.bqn_meaning.specs.Meaning.{Outcome, Answers, Faults, IsSpent, evaluated_within, evaluated_of, replies, line, at_start}
+use Rattle.bqn_meaning.specs.Meaning.{replies}
+use Rattle.bqn_meaning.specs.Sessions.{line}
+use Rattle.bqn_meaning.specs.Programs.{Outcome, Answers, Faults, IsSpent, at_start, evaluated_of, evaluated_within}
 
 -- the tree of a text behind the names of a session
 abbrev resolved_tree : Stmts → Result (List Use) Refusal → Result Stmts Refusal

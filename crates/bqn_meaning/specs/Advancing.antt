@@ -5,7 +5,8 @@ use Rattle.bqn_rows.specs.Running.{Res, Gives, Ends}
 use Rattle.bqn_syntax.specs.grammar.Trees.{Stmts}
 use Rattle.bqn_syntax.specs.blocks.Blocks.{Earlier}
 use Rattle.bqn_meaning.specs.Environments.{State}
-use Rattle.bqn_meaning.specs.Meaning.{line, Evaluated, Answers, Faults, IsSpent, evaluated}
+use Rattle.bqn_meaning.specs.Sessions.{line}
+use Rattle.bqn_meaning.specs.Programs.{Evaluated, Answers, Faults, IsSpent, evaluated}
 
 -- more may be written, and fewer steps are left
 pub record Follows (old new : State) : Type 0 where
@@ -32,7 +33,8 @@ pub record BeginsWith (front whole : List ℕ) : Type 0 where
 
 -- the same outcome and bytes; of one that is spent, the bytes so far
 abbrev pub GoesOnAs : (smaller larger : Evaluated) → Type 0
-GoesOnAs smaller larger = elim smaller.outcome [ IsSpent ↦ BeginsWith smaller.written larger.written | Answers v ↦ larger ≡ smaller | Faults f ↦ larger ≡ smaller ]
+GoesOnAs smaller larger =
+    elim smaller.outcome [ IsSpent ↦ BeginsWith smaller.written larger.written | Answers v ↦ larger ≡ smaller | Faults f ↦ larger ≡ smaller ]
 
 abbrev pub LargerBudgetsGoOn : Type 0
 LargerBudgetsGoOn = (ss : Stmts) (words : List (List ℕ)) (steps more : ℕ) → GoesOnAs (evaluated ss words steps) (evaluated ss words (steps + more))

@@ -1,12 +1,13 @@
 -- Environments, and reading and storing variables: BQN's page on scope. That an environment is told by its number, and is of use
 -- only to the body for which it was made, is this project's own.
 use Rattle.std.specs.Prelude.{ℕ, zero, suc, nat_eq, Bool, true, false, List, [], ◌∷◌, ◌++◌, length, map, slice_get, slice_set, Option, Some, None, Result, Ok, encode_utf8_all}
+use Rattle.std.specs.Option.{option_and_then}
 use Rattle.bqn_base.specs.declared.fault.Fault.TheVariants.{Undefined}
 use Rattle.bqn_rows.specs.Plain.{Value}
 use Rattle.bqn_rows.specs.Raised.{Raised}
 use Rattle.bqn_rows.specs.Running.{Res, Gives, Ends, Runs}
 use Rattle.bqn_syntax.specs.scope.Scope.{Seen, same_name, sees}
-use Rattle.bqn_meaning.specs.Actions.{Action, fault, found}
+use Rattle.bqn_meaning.specs.Actions.{Action, ◌>>=◌, found}
 use Rattle.bqn_syntax.specs.blocks.Blocks.{Numbered}
 
 -- the body for which it was made, the number of the environment around it, and its variables, the newest first
@@ -44,7 +45,8 @@ wrote text s = record s { written = s.written ++ encode_utf8_all text }
 
 -- an environment for this body within that one; it gets the next number
 abbrev pub within_new : {A : Type 0} → (body parent : ℕ) → (ℕ → Does A) → Does A
-within_new body parent next = λ s. next (length s.environments) (record s { environments = s.environments ++ record { body = body; parent = parent; variables = [] } ∷ [] })
+within_new body parent next =
+    λ s. next (length s.environments) (record s { environments = s.environments ++ record { body = body; parent = parent; variables = [] } ∷ [] })
 
 -- ---- look-ups
 
@@ -61,62 +63,68 @@ if_made_for true e = Some e
 if_made_for false e = None
 
 -- an environment, where it was made for this body
-abbrev pub made_for : ℕ → Option Environment → Option Environment
+abbrev pub made_for : (body : ℕ) → Option Environment → Option Environment
 made_for body None = None
 made_for body (Some e) = if_made_for (nat_eq e.body body) e
 
-abbrev pub value_in : Option Environment → List ℕ → Option Value
-value_in None name = None
-value_in (Some e) name = value_of e.variables name
+abbrev pub itself : ℕ → Option Environment → Option ℕ
+itself n None = None
+itself n (Some e) = Some n
 
-abbrev pub at_parent : {A : Type 0} → A → (ℕ → A) → Option Environment → A
-at_parent otherwise go None = otherwise
-at_parent otherwise go (Some e) = go e.parent
+abbrev pub at_parent : Option Environment → (ℕ → Option ℕ) → Option ℕ
+at_parent None go = None
+at_parent (Some e) go = go e.parent
 
--- the value of a name of the body that stands so many around
-abbrev pub value_at : List Numbered → (up environment : ℕ) → List ℕ → List Environment → Option Value
-value_at [] up n name es = None
-value_at (b ∷ around) zero n name es = value_in (made_for b.number (slice_get es n)) name
-value_at (b ∷ around) (suc up) n name es = at_parent None (λ m. value_at around up m name es) (made_for b.number (slice_get es n))
+-- the number of the environment of the body that stands so many around, where each on the way was made for the body expected there
+abbrev pub place_at : List Numbered → (up environment : ℕ) → List Environment → Option ℕ
+place_at [] up n es = None
+place_at (b ∷ around) zero n es = itself n (made_for b.number (slice_get es n))
+place_at (b ∷ around) (suc up) n es = at_parent (made_for b.number (slice_get es n)) (λ m. place_at around up m es)
 
-abbrev pub with_value : List ℕ → Value → Environment → Environment
-with_value name v e = record e { variables = (name, v) ∷ e.variables }
-
-abbrev pub put_in : ℕ → List ℕ → Value → List Environment → Option Environment → List Environment
-put_in n name v es None = es
-put_in n name v es (Some e) = slice_set es n (with_value name v e)
-
--- the environments after a store
-abbrev pub put_at : List Numbered → (up environment : ℕ) → List ℕ → Value → List Environment → List Environment
-put_at [] up n name v es = es
-put_at (b ∷ around) zero n name v es = put_in n name v es (made_for b.number (slice_get es n))
-put_at (b ∷ around) (suc up) n name v es = at_parent es (λ m. put_at around up m name v es) (made_for b.number (slice_get es n))
-
--- ---- variables, from an environment of the first of these bodies
+abbrev pub place_seen : List Numbered → (environment : ℕ) → Option Seen → List Environment → Option ℕ
+place_seen scopes n None es = None
+place_seen scopes n (Some at) es = place_at scopes at.up n es
 
 abbrev pub seen_from : List Numbered → List ℕ → Option Seen
 seen_from scopes name = sees (map (λ b. b.scope) scopes) name
 
-abbrev pub looked : List Numbered → ℕ → List ℕ → Option Seen → State → Option Value
-looked scopes n name None s = None
-looked scopes n name (Some at) s = value_at scopes at.up n name s.environments
+-- the number of the environment that a name belongs to
+abbrev pub place : List Numbered → (environment : ℕ) → List ℕ → List Environment → Option ℕ
+place scopes n name es = place_seen scopes n (seen_from scopes name) es
+
+-- ---- reading, from an environment of the first of these bodies
+
+abbrev pub variable : State → List ℕ → (environment : ℕ) → Option Value
+variable s name n = option_and_then (λ e. value_of e.variables name) (slice_get s.environments n)
+
+abbrev pub value_at : List Numbered → (environment : ℕ) → List ℕ → State → Option Value
+value_at scopes n name s = option_and_then (variable s name) (place scopes n name s.environments)
 
 -- the value of a name
-unfoldable pub look : List Numbered → ℕ → List ℕ → Does Value
-look scopes n name = λ s. found Undefined (looked scopes n name (seen_from scopes name) s) s
+unfoldable pub look : List Numbered → (environment : ℕ) → List ℕ → Does Value
+look scopes n name = λ s. found Undefined (value_at scopes n name s) s
+
+-- ---- storing
+
+abbrev pub with_value : List ℕ → Value → Environment → Environment
+with_value name v e = record e { variables = (name, v) ∷ e.variables }
+
+abbrev pub put_in : ℕ → List ℕ → Value → Option Environment → List Environment → List Environment
+put_in n name v None es = es
+put_in n name v (Some e) es = slice_set es n (with_value name v e)
+
+-- the environments after a store
+abbrev pub put_at : Option ℕ → List ℕ → Value → List Environment → List Environment
+put_at None name v es = es
+put_at (Some n) name v es = put_in n name v (slice_get es n) es
+
+abbrev pub stored : Option ℕ → List ℕ → Value → State → State
+stored at name v s = record s { environments = put_at at name v s.environments }
 
 -- a name of the body itself gets a value
-unfoldable pub define : List Numbered → ℕ → List ℕ → Value → Does (Unit {0})
-define scopes n name v = λ s. Gives (Ok tt) (record s { environments = put_at scopes 0 n name v s.environments })
-
-abbrev pub put_seen : List Numbered → ℕ → List ℕ → Value → Option Seen → List Environment → List Environment
-put_seen scopes n name v None es = es
-put_seen scopes n name v (Some at) es = put_at scopes at.up n name v es
-
-abbrev pub changed : List Numbered → ℕ → List ℕ → Value → Option Value → Does (Unit {0})
-changed scopes n name v None = fault Undefined
-changed scopes n name v (Some old) = λ s. Gives (Ok tt) (record s { environments = put_seen scopes n name v (seen_from scopes name) s.environments })
+unfoldable pub define : List Numbered → (environment : ℕ) → List ℕ → Value → Does (Unit {0})
+define scopes n name v = λ s. Gives (Ok tt) (stored (place_at scopes 0 n s.environments) name v s)
 
 -- a name that has a value gets another
-unfoldable pub change : List Numbered → ℕ → List ℕ → Value → Does (Unit {0})
-change scopes n name v = λ s. changed scopes n name v (looked scopes n name (seen_from scopes name) s) s
+unfoldable pub change : List Numbered → (environment : ℕ) → List ℕ → Value → Does (Unit {0})
+change scopes n name v = look scopes n name >>= (λ old s. Gives (Ok tt) (stored (place scopes n name s.environments) name v s))

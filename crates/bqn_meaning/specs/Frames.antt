@@ -21,6 +21,13 @@ pub record Setting : Type 0 where
   pub blocks : List Block
   pub args : Value
 
+-- a run of a block: its number, the environment where its value was made, and what it is run on
+pub record Entry : Type 0 where
+  pub block : ℕ
+  pub outer : ℕ
+  pub operands : Values
+  pub arguments : Arguments
+
 -- The body and those around it, and its environment; the block, its class, the environment where it was made, and what it is run
 -- on.
 pub record Frame : Type 0 where

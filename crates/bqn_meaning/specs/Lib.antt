@@ -4,4 +4,7 @@ pub mod Frames
 pub mod Matching
 pub mod Deriving
 pub mod Meaning
+pub mod Sessions
+pub mod Programs
+pub mod BlockNumbers
 pub mod Advancing

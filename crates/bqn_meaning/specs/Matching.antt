@@ -19,7 +19,7 @@ use Rattle.bqn_syntax.specs.blocks.Leads.{or_else, pattern_lead, header_lead}
 use Rattle.bqn_syntax.specs.scope.Scope.{name_of, has}
 use Rattle.bqn_meaning.specs.Actions.{Action, at, ◌>>=◌, pure, fault, known, found, used, where_so}
 use Rattle.bqn_syntax.specs.blocks.Blocks.{Block, Body, body_at}
-use Rattle.bqn_meaning.specs.Environments.{Environment, State, Does, value_in, define, change}
+use Rattle.bqn_meaning.specs.Environments.{Environment, State, Does, variable, define, change}
 use Rattle.bqn_meaning.specs.Frames.{Setting, Frame, literal, special_value, left_of, right_of}
 
 -- ---- fields
@@ -42,7 +42,7 @@ field_value false v = fault NoField
 
 -- the present value of a field
 abbrev pub field_in : List Block → ℕ → List ℕ → Does Value
-field_in blocks n name = λ s. field_value (has (fields_of blocks n s) name) (value_in (slice_get s.environments n) name) s
+field_in blocks n name = λ s. field_value (has (fields_of blocks n s) name) (variable s name n) s
 
 abbrev pub field : List Block → Value → List ℕ → Does Value
 field blocks (Namespace n) name = field_in blocks n name
@@ -130,7 +130,8 @@ abbrev mutual
   fit g f a (Skip place) v = pure Fits
   fit g f a (Literal t) v = known (literal_fit (literal t.kind) v)
   fit g f a (ListPattern qs) v = taken_apart (λ xs. where_so Mismatch (all_fit g f a qs xs) (as_many qs xs)) (fields_fit g f a (names_in qs)) (pure Mismatch) v
-  fit g f a (StrandPattern qs) v = taken_apart (λ xs. where_so Mismatch (all_fit g f a qs xs) (as_many qs xs)) (fields_fit g f a (names_in qs)) (pure Mismatch) v
+  fit g f a (StrandPattern qs) v =
+      taken_apart (λ xs. where_so Mismatch (all_fit g f a qs xs) (as_many qs xs)) (fields_fit g f a (names_in qs)) (pure Mismatch) v
 
   pub all_fit : Setting → Frame → Arrow → Patterns → Values → Does Fit
   all_fit g f a (and_patterns q qs) (more x xs) = fit g f a q x >>= and_fit (all_fit g f a qs xs)

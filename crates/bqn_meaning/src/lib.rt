@@ -4,4 +4,4 @@
 
 mod laws;
 
-pub use laws::{larger_budgets_go_on, runs_advance};
+pub use laws::{evaluations_meet_their_blocks, larger_budgets_go_on, runs_advance};

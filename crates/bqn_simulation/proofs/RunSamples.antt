@@ -9,8 +9,9 @@ use Rattle.bqn_rows.specs.Running.{Gives, Ends}
 use Rattle.bqn_meaning.specs.Environments as source
 use Rattle.bqn_meaning.specs.Environments.{look, define, change}
 use Rattle.bqn_syntax.specs.blocks.Blocks.{Earlier, no_lines, further}
-use Rattle.bqn_meaning.specs.Meaning as source_meaning
-use Rattle.bqn_meaning.specs.Meaning.{Evaluated, Answers, Faults, IsSpent, evaluated_within, evaluated_of, line, at_start}
+use Rattle.bqn_meaning.specs.Programs as source_meaning
+use Rattle.bqn_meaning.specs.Sessions.{line}
+use Rattle.bqn_meaning.specs.Programs.{Evaluated, Answers, Faults, IsSpent, at_start, evaluated_of, evaluated_within}
 use Rattle.bqn_execution.specs.States.{Ran}
 use Rattle.bqn_execution.specs.Programs as run
 use Rattle.bqn_execution.specs.Programs.{Done, Faulted, Spent, Stuck, Kept, fresh, no_words, exec_within, outcome, written, kept_behind}

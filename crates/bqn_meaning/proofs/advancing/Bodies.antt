@@ -8,11 +8,12 @@ use Rattle.bqn_rows.specs.Calls.{Arguments, Call, End, Enter, Turn, Write, Insid
 use Rattle.bqn_rows.specs.Running.{Gives, run, calls}
 use Rattle.bqn_syntax.specs.grammar.Trees.{Stmts, no_stmts, and_stmts, Eval, Predicate, Export}
 use Rattle.bqn_syntax.specs.blocks.Leads.{stmt_lead, at_start}
+use Rattle.bqn_syntax.specs.declared.tree.Class.{Class}
 use Rattle.bqn_syntax.specs.blocks.Counting.{in_expr}
 use Rattle.bqn_meaning.specs.Actions.{at, ◌>>=◌, known, used, where_so}
 use Rattle.bqn_syntax.specs.blocks.Blocks.{Block, Body}
 use Rattle.bqn_meaning.specs.Environments.{Does, Calling, within_new}
-use Rattle.bqn_meaning.specs.Frames.{Setting, Frame}
+use Rattle.bqn_meaning.specs.Frames.{Setting, Entry, Frame}
 use Rattle.bqn_meaning.specs.Matching.{header_fits}
 use Rattle.bqn_meaning.specs.Meaning.{truth, tested, Ending, NextBody, EndsWith, eval_expr, eval_stmts, eval_body, body_answer, is_for, frame_of, or_next, try_body, try_bodies, enter_block, replies}
 use Rattle.bqn_meaning.proofs.advancing.Actions.{Advances, gives, then_advances, binds, fails, finds, places, where_advances, steps, writes, opens, chooses}
@@ -33,20 +34,23 @@ module _ (h : Calling) (on : (t : Call) → Advances (h t)) (g : Setting) where
   or-next next a b f NextBody = a
   or-next next a b f (EndsWith p v) = places p (used (body_answer b f v)) (finds _ (body_answer b f v))
 
-  module _ (number : ℕ) (within : Block) (parent : ℕ) (operands : plain.Values) (xs : Arguments) where
-    tries : (bs : List Body) → Advances (try_bodies h g bs number within parent operands xs)
-    tries [] = fails _
-    tries (b ∷ bs) = chooses (try_body h g (try_bodies h g bs number within parent operands xs) b number within parent operands xs) (try_bodies h g bs number within parent operands xs) (steps (within_new b.own.number parent tried) (opens b.own.number parent tried (λ n. binds (eval_body h g b (frame n)) (or_next (try_bodies h g bs number within parent operands xs) b (frame n)) (body b (frame n)) (or-next (try_bodies h g bs number within parent operands xs) (tries bs) b (frame n))))) (tries bs) (is_for b.calls xs)
-      where
-        frame : ℕ → Frame
-        frame n = frame_of b n number within parent operands xs
+  tries : (e : Entry) (class : Class) (bs : List Body) → Advances (try_bodies h g e class bs)
+  tries e class [] = fails _
+  tries e class (b ∷ bs) =
+      chooses (try_body h g e class others b) others (steps (within_new b.own.number e.outer tried) (opens b.own.number e.outer tried (λ n. binds (eval_body h g b (frame n)) (or_next others b (frame n)) (body b (frame n)) (or-next others (tries e class bs) b (frame n))))) (tries e class bs) (is_for b.calls e.arguments)
+    where
+      others : Does plain.Value
+      others = try_bodies h g e class bs
 
-        tried : ℕ → Does plain.Value
-        tried n = eval_body h g b (frame n) >>= or_next (try_bodies h g bs number within parent operands xs) b (frame n)
+      frame : ℕ → Frame
+      frame n = frame_of e class b n
 
-  enters : (within : Option Block) (number environment : ℕ) (operands : plain.Values) (xs : Arguments) → Advances (enter_block h g within number environment operands xs)
-  enters None number e operands xs = fails _
-  enters (Some within) number e operands xs = tries number within e operands xs within.bodies
+      tried : ℕ → Does plain.Value
+      tried n = eval_body h g b (frame n) >>= or_next others b (frame n)
+
+  enters : (b : Option Block) (e : Entry) → Advances (enter_block h g b e)
+  enters None e = fails _
+  enters (Some b) e = tries e b.class b.bodies
 
 module _ (g : Setting) (enter : (block environment : ℕ) → plain.Values → Arguments → Does plain.Value) (inner : Calling)
     (on_enter : (b e : ℕ) (fs : plain.Values) (xs : Arguments) → Advances (enter b e fs xs)) (on_inner : (t : Call) → Advances (inner t)) where
@@ -59,4 +63,4 @@ module _ (g : Setting) (enter : (block environment : ℕ) → plain.Values → A
 
 pub calls-advance : (g : Setting) (room : ℕ) (t : Call) → Advances (calls (replies g) room t)
 calls-advance g zero t = runs g (λ b e fs xs s. Gives (Err (unplaced TooDeep)) s) (λ t s. Gives (Err (unplaced TooDeep)) s) (λ b e fs xs. gives (Err (unplaced TooDeep))) (λ t. gives (Err (unplaced TooDeep))) t
-calls-advance g (suc room) t = runs g ((replies g).enter room (calls (replies g) room)) (calls (replies g) room) (λ b e fs xs. enters (calls (replies g) room) (calls-advance g room) g (slice_get g.blocks b) b e fs xs) (calls-advance g room) t
+calls-advance g (suc room) t = runs g ((replies g).enter room (calls (replies g) room)) (calls (replies g) room) (λ b e fs xs. enters (calls (replies g) room) (calls-advance g room) g (slice_get g.blocks b) (record { block = b; outer = e; operands = fs; arguments = xs })) (calls-advance g room) t

@@ -2,13 +2,15 @@
 use Rattle.std.proofs.Common.{◌≡◌, ◌∙◌, ℕ, ◌+◌, Option, Result, Ok, Err, refl, ap}
 use Rattle.bqn_base.specs.declared.fault.Fault.{Fault}
 use Rattle.bqn_rows.specs.Plain.{Value}
-use Rattle.bqn_rows.specs.Running.{Gives, Ends, calls}
+use Rattle.bqn_rows.specs.Running.{Gives, Ends, open_calls, calls}
 use Rattle.bqn_syntax.specs.grammar.Trees.{Stmts}
 use Rattle.bqn_meaning.specs.Actions.{◌>>=◌}
-use Rattle.bqn_syntax.specs.blocks.Blocks.{Body, Earlier, no_lines, line_body, table_of}
+use Rattle.bqn_syntax.specs.blocks.Blocks.{Body, Earlier, no_lines, line_body}
 use Rattle.bqn_meaning.specs.Environments.{Ran, stepped}
 use Rattle.bqn_meaning.specs.Frames.{Setting, args_value}
-use Rattle.bqn_meaning.specs.Meaning.{Ending, NextBody, EndsWith, eval_body, replies, begun, line_frame, line_answer, body_answer, line, at_start, evaluated_of, with_args}
+use Rattle.bqn_meaning.specs.Meaning.{Ending, NextBody, EndsWith, eval_body, body_answer, replies}
+use Rattle.bqn_meaning.specs.Sessions.{begun, line_setting, line_frame, line_answer, line}
+use Rattle.bqn_meaning.specs.Programs.{at_start, evaluated_of, with_args}
 use Rattle.bqn_meaning.specs.Advancing.{Follows, state_of, RunsAdvance, GoesOnAs, LargerBudgetsGoOn}
 use Rattle.bqn_meaning.proofs.advancing.Actions.{GoesOn, Advances, gives, binds, fails, steps}
 use Rattle.bqn_meaning.proofs.advancing.Bodies.{body, calls-advance}
@@ -19,7 +21,7 @@ answers b (EndsWith p v) = gives (Ok (body_answer b (line_frame b) v))
 
 module _ (room : ℕ) (earlier : Earlier) (args : Value) (ss : Stmts) where
   abbrev setting : Setting
-  setting = record { blocks = table_of earlier ss; args = args }
+  setting = line_setting earlier args ss
 
   abbrev own : Body
   own = line_body earlier ss
@@ -46,8 +48,8 @@ larger-budget k (Gives (Err f) s) larger e = ap evaluated_of e
 larger-budget k (Ends s) larger f = record { rest = f.more; is = written-of larger ∙ f.written }
 
 module _ (ss : Stmts) (n k : ℕ) where
-  by-args : (args : Result Value Fault) → GoesOnAs (with_args 1000 ss n args) (with_args 1000 ss (n + k) args)
-  by-args (Ok args) = larger-budget k (line 1000 no_lines args ss (at_start n)) (line 1000 no_lines args ss (at_start (n + k))) ((line-advances 1000 no_lines args ss).goes_on k (at_start n))
+  by-args : (args : Result Value Fault) → GoesOnAs (with_args open_calls ss n args) (with_args open_calls ss (n + k) args)
+  by-args (Ok args) = larger-budget k (line open_calls no_lines args ss (at_start n)) (line open_calls no_lines args ss (at_start (n + k))) ((line-advances open_calls no_lines args ss).goes_on k (at_start n))
   by-args (Err f) = refl
 
 pub go-on : LargerBudgetsGoOn

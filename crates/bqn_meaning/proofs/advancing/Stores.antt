@@ -1,10 +1,11 @@
 -- Reading and storing variables, fields, patterns and headers advance.
-use Rattle.std.proofs.Common.{◌≡◌, ℕ, Bool, true, false, List, [], ◌∷◌, slice_get, Option, Some, None, Ok, refl}
+use Rattle.std.proofs.Common.{ℕ, Bool, true, false, List, [], ◌∷◌, Option, Some, None, Ok, refl}
 use Rattle.std.specs.List.{list_all}
 use Rattle.bqn_base.specs.declared.fault.Fault.TheVariants.{Undefined, Pattern as NoMatch, NoField}
 use Rattle.bqn_rows.specs.Plain.{Value, Array, Namespace, Values, more}
 use Rattle.bqn_base.specs.declared.place.Place.{Place}
 use Rattle.bqn_rows.specs.Raised.{raised}
+use Rattle.bqn_rows.specs.Running.{Gives}
 use Rattle.bqn_syntax.specs.declared.token.Special.{Special}
 use Rattle.bqn_syntax.specs.declared.token.Special.TheVariants as special
 use Rattle.bqn_syntax.specs.declared.token.Kind.{Kind}
@@ -14,39 +15,30 @@ use Rattle.bqn_syntax.specs.declared.tree.Arrow.{Arrow}
 use Rattle.bqn_syntax.specs.declared.tree.Arrow.TheVariants as arrow
 use Rattle.bqn_syntax.specs.grammar.Trees.{Pattern, Name, Skip, Literal, ListPattern, StrandPattern, Patterns, and_patterns, Header}
 use Rattle.bqn_syntax.specs.blocks.Leads.{or_else, pattern_lead, header_lead}
-use Rattle.bqn_syntax.specs.scope.Scope.{Seen, name_of, has}
+use Rattle.bqn_syntax.specs.scope.Scope.{name_of, has}
 use Rattle.bqn_meaning.specs.Actions.{at, ◌>>=◌, pure, fault, known, used, where_so}
 use Rattle.bqn_syntax.specs.blocks.Blocks.{Numbered, Block}
-use Rattle.bqn_meaning.specs.Environments.{State, Does, value_in, looked, seen_from, look, define, changed, change, put_at, put_seen}
+use Rattle.bqn_meaning.specs.Environments.{Does, place_at, place, variable, value_at, look, put_at, stored, define, change}
 use Rattle.bqn_meaning.specs.Frames.{Setting, Frame, literal, special_value, left_of, right_of}
 use Rattle.bqn_meaning.specs.Matching.{fields_of, field_value, field_in, field, store_named, store, stays, assigned, Fit, Fits, Mismatch, Missing, and_fit, literal_fit, as_many, names_in, taken_apart, store_fields, fields_fit, fit, all_fit, must_fit, bind, does_fit, argument_fits, argument, name_special, name_operand, own_special, header_fits}
-use Rattle.bqn_meaning.specs.Advancing.{with_more}
 use Rattle.bqn_meaning.proofs.advancing.Actions.{Advances, gives, binds, fails, finds, uses, places, where_advances, puts, depends}
 
 -- ---- variables
 
-looked-same : (scopes : List Numbered) (n : ℕ) (name : List ℕ) (at : Option Seen) (k : ℕ) (s : State) → looked scopes n name at (with_more k s) ≡ looked scopes n name at s
-looked-same scopes n name None k s = refl
-looked-same scopes n name (Some at) k s = refl
-
 pub looks : (scopes : List Numbered) (n : ℕ) (name : List ℕ) → Advances (look scopes n name)
 unfolding look
-looks scopes n name = depends (looked scopes n name (seen_from scopes name)) (looked-same scopes n name (seen_from scopes name)) (λ v. found' v) (λ v. finds Undefined v)
+looks scopes n name = depends (value_at scopes n name) (λ k s. refl) (λ v. found' v) (λ v. finds Undefined v)
   where
     found' : Option Value → Does Value
     found' v = elim v [ None ↦ fault Undefined | Some x ↦ pure x ]
 
 pub defines : (scopes : List Numbered) (n : ℕ) (name : List ℕ) (v : Value) → Advances (define scopes n name v)
 unfolding define
-defines scopes n name v = puts (Ok tt) (put_at scopes 0 n name v)
-
-changed-advances : (scopes : List Numbered) (n : ℕ) (name : List ℕ) (v : Value) (old : Option Value) → Advances (changed scopes n name v old)
-changed-advances scopes n name v None = fails Undefined
-changed-advances scopes n name v (Some old) = puts (Ok tt) (put_seen scopes n name v (seen_from scopes name))
+defines scopes n name v = puts (Ok tt) (λ es. put_at (place_at scopes 0 n es) name v es)
 
 pub changes : (scopes : List Numbered) (n : ℕ) (name : List ℕ) (v : Value) → Advances (change scopes n name v)
 unfolding change
-changes scopes n name v = depends (looked scopes n name (seen_from scopes name)) (looked-same scopes n name (seen_from scopes name)) (changed scopes n name v) (changed-advances scopes n name v)
+changes scopes n name v = binds (look scopes n name) (λ old s. Gives (Ok tt) (stored (place scopes n name s.environments) name v s)) (looks scopes n name) (λ old. puts (Ok tt) (λ es. put_at (place scopes n name es) name v es))
 
 -- ---- fields
 
@@ -55,7 +47,7 @@ field-value true v = finds Undefined v
 field-value false v = fails NoField
 
 pub field-in : (blocks : List Block) (n : ℕ) (name : List ℕ) → Advances (field_in blocks n name)
-field-in blocks n name = depends {X = Bool × Option Value} (λ s. (has (fields_of blocks n s) name, value_in (slice_get s.environments n) name)) (λ k s. refl) (λ p. field_value p.0 p.1) (λ p. field-value p.0 p.1)
+field-in blocks n name = depends {X = Bool × Option Value} (λ s. (has (fields_of blocks n s) name, variable s name n)) (λ k s. refl) (λ p. field_value p.0 p.1) (λ p. field-value p.0 p.1)
 
 pub fields-advance : (blocks : List Block) (v : Value) (name : List ℕ) → Advances (field blocks v name)
 fields-advance blocks (Namespace n) name = field-in blocks n name

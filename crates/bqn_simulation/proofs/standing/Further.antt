@@ -11,7 +11,7 @@ use Rattle.bqn_syntax.specs.blocks.Blocks as source
 use Rattle.bqn_syntax.specs.blocks.Blocks.{Earlier, all_bodies, further, behind as behind_lines, line_scope, line_body, scopes_of}
 use Rattle.bqn_syntax.specs.scope.Bodies.{BodyNames, Resolution, body_names, inside}
 use Rattle.bqn_meaning.specs.Frames.{Setting}
-use Rattle.bqn_meaning.specs.Meaning.{names_before}
+use Rattle.bqn_meaning.specs.Sessions.{names_before, line_setting}
 use Rattle.bqn_code.specs.declared.code.Body.{Body}
 use Rattle.bqn_code.specs.declared.code.Block.{Block}
 use Rattle.bqn_code.specs.Plain.{Code}
@@ -24,30 +24,30 @@ use Rattle.bqn_compile.specs.Blocks.{stmts_blocks}
 use Rattle.bqn_compile.specs.Sources.{FromSource}
 use Rattle.bqn_compile.specs.Translation.{at_start, setting, program, translation}
 use Rattle.bqn_compile.proofs.Counts.{past-nothing}
-use Rattle.bqn_simulation.proofs.PlacedCodes.{placed_is}
+use Rattle.bqn_simulation.proofs.standing.PlacedCodes.{placed_is}
 use Rattle.bqn_compile.proofs.verified.slots.Fronts.{front_same, front_more, front_at, at_back, some_same}
 use Rattle.bqn_compile.proofs.verified.blocks.BlockCounts.{stmts_counts}
 use Rattle.bqn_compile.proofs.verified.slots.Seeing.{inside_front}
 use Rattle.bqn_compile.proofs.verified.pools.Items.{EachItem, stmts_items}
-use Rattle.bqn_simulation.proofs.Look.{Distinct}
-use Rattle.bqn_simulation.proofs.Named as named
-use Rattle.bqn_simulation.proofs.BodyCounts.{stmts_many}
-use Rattle.bqn_simulation.proofs.Tells.{ItemPooled}
-use Rattle.bqn_simulation.proofs.Zips.{BlocksMatch}
-use Rattle.bqn_simulation.proofs.OneLine.{Resolved, resolved_is, blocks_match, top_told}
-use Rattle.bqn_simulation.proofs.Pools.{items_pooled, mentions_exported}
-use Rattle.bqn_simulation.proofs.Exported.{AllExported}
-use Rattle.bqn_simulation.proofs.Linking.{Tabled, linked, distinct_behind}
-use Rattle.bqn_simulation.proofs.Tables.{tail, here_of, blocks_behind, bodies_behind}
-use Rattle.bqn_simulation.proofs.Told.{StmtsTold}
-use Rattle.bqn_simulation.proofs.Expressions.{IsPlaced}
-use Rattle.bqn_simulation.proofs.Fields.{Exporting}
-use Rattle.bqn_simulation.proofs.Calls.{BodyFits, Fits}
-use Rattle.bqn_simulation.proofs.Fitting.{known_fit}
-use Rattle.bqn_simulation.proofs.Lines.{Grows, NoneHere, LineFits}
-use Rattle.bqn_simulation.proofs.Exports.{names_at as names_of_body, FoundAt, all_there, all_not_there}
-use Rattle.bqn_simulation.proofs.Indexed.{Pair, AllPairs, pairs_append, pairs_length, bodies_append, AllIndexed, blocks_indexed, Found, found, to_pairs, many_placed}
-use Rattle.bqn_simulation.proofs.Session.{tabled, is_placed, all_known, gained, CodeKnown, Grown, AllOld, old_stay, old_append, old_length, placed_old}
+use Rattle.bqn_simulation.proofs.running.Variables.{Distinct}
+use Rattle.bqn_simulation.proofs.standing.Named as named
+use Rattle.bqn_simulation.proofs.standing.MentionedBodies.{stmts_many}
+use Rattle.bqn_simulation.proofs.standing.Tells.{ItemPooled}
+use Rattle.bqn_simulation.proofs.standing.Zips.{BlocksMatch}
+use Rattle.bqn_simulation.proofs.standing.OneLine.{Resolved, resolved_is, blocks_match, top_told}
+use Rattle.bqn_simulation.proofs.standing.Pools.{items_pooled, mentions_exported}
+use Rattle.bqn_simulation.proofs.standing.Exported.{AllExported}
+use Rattle.bqn_simulation.proofs.standing.Linking.{Tabled, linked, distinct_behind}
+use Rattle.bqn_simulation.proofs.standing.Tables.{tail, here_of, blocks_behind, bodies_behind}
+use Rattle.bqn_simulation.proofs.running.Told.{StmtsTold}
+use Rattle.bqn_simulation.proofs.running.Shared.{IsPlaced}
+use Rattle.bqn_simulation.proofs.running.Fields.{Exporting}
+use Rattle.bqn_simulation.proofs.running.Calls.{BodyFits, Fits}
+use Rattle.bqn_simulation.proofs.standing.Fitting.{known_fit}
+use Rattle.bqn_simulation.proofs.running.Lines.{Grows, NoneHere, LineFits}
+use Rattle.bqn_simulation.proofs.standing.Exports.{names_at as names_of_body, FoundAt, all_there, all_not_there}
+use Rattle.bqn_simulation.proofs.standing.Indexed.{Pair, AllPairs, pairs_append, pairs_length, bodies_append, AllIndexed, blocks_indexed, Found, found, to_pairs, many_placed}
+use Rattle.bqn_simulation.proofs.standing.EarlierLines.{tabled, is_placed, all_known, gained, CodeKnown, Grown, AllOld, old_stay, old_append, old_length, placed_old}
 
 -- what is known behind some lines
 pub record Session (e : Earlier) (t : Table) : Type 0 where
@@ -205,7 +205,7 @@ module _ (e : Earlier) (t : Table) (s : Session e t) (ss : Stmts) (tokens : List
 
   module _ (args : Value) where
     abbrev g : Setting
-    g = record { blocks = source.table_of e ss; args = args }
+    g = line_setting e args ss
 
     top_fits : BodyFits all t' g here 0 (line_body e ss) main
     top_fits = record {

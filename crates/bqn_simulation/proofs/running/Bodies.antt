@@ -33,19 +33,20 @@ use Rattle.bqn_execution.specs.Patterns as taking
 use Rattle.bqn_execution.specs.Execution.{exec, with_pattern}
 use Rattle.bqn_compile.specs.declared.count.Count.{Count}
 use Rattle.bqn_compile.specs.Counting as counting
-use Rattle.bqn_compile.specs.Counting.{past, in_argument, in_operand, in_token, in_header, in_stmt}
+use Rattle.bqn_compile.specs.Counting.{past, in_argument, in_operand, in_token, in_header}
 use Rattle.bqn_compile.specs.Pools.{seen_at}
 use Rattle.bqn_compile.specs.Patterns.{pattern_code}
 use Rattle.bqn_compile.specs.Expressions.{Setting as Setting', special_instr, at_lead}
 use Rattle.bqn_compile.specs.Bodies.{put_named_argument, put_argument, put_name, put_operand, own_instr, put_header, put_last, put_stmts}
 use Rattle.bqn_simulation.specs.Views.{view, onto, Same}
-use Rattle.bqn_simulation.proofs.Agree.{into, into_bind, into_same, into_onto, through, binds, pures, faults, knows, uses as uses_same, ats}
-use Rattle.bqn_simulation.proofs.Acts.{push, as_is, Side, Acts, seq, still, treed}
-use Rattle.bqn_simulation.proofs.Look.{over}
-use Rattle.bqn_simulation.proofs.Places.{expr_same}
-use Rattle.bqn_simulation.proofs.Patterns.{fit_same}
-use Rattle.bqn_simulation.proofs.Told as told
-use Rattle.bqn_simulation.proofs.Expressions.{Shared, special_acts, store_acts, expr_acts}
+use Rattle.bqn_simulation.proofs.running.Agree.{into, into_bind, into_same, into_onto, through, binds, pures, knows, uses as uses_same, ats}
+use Rattle.bqn_simulation.proofs.running.Acts.{push, as_is, Side, Acts, seq, still, treed}
+use Rattle.bqn_simulation.proofs.running.Variables.{over}
+use Rattle.bqn_simulation.proofs.running.BlockCounts.{expr_same}
+use Rattle.bqn_simulation.proofs.running.Patterns.{fit_same}
+use Rattle.bqn_simulation.proofs.running.Told as told
+use Rattle.bqn_simulation.proofs.running.Shared.{Shared}
+use Rattle.bqn_simulation.proofs.running.Expressions.{special_acts, store_acts, expr_acts}
 
 -- how a body ends in this environment, its namespace being the answer where it exports
 abbrev pub ended : (environment : ℕ) → (exports : Bool) → Ending → Ending

@@ -14,7 +14,7 @@ use Rattle.bqn_execution.specs.Variables.{Frame}
 use Rattle.bqn_execution.specs.Operands.{Go, Stack, pushed, value}
 use Rattle.bqn_execution.specs.Execution.{act, exec}
 use Rattle.bqn_simulation.specs.Views.{Same}
-use Rattle.bqn_simulation.proofs.Agree.{into, into_bind, into_same, through, gives, ats, bind_assoc, Only, into_where}
+use Rattle.bqn_simulation.proofs.running.Agree.{into, into_bind, into_same, through, gives, ats, bind_assoc, Only, into_where}
 
 -- on top of a stack
 abbrev pub push : Option Value → Stack → Stack

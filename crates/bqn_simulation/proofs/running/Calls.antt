@@ -7,16 +7,16 @@ use Rattle.bqn_rows.specs.Plain as plain
 use Rattle.bqn_rows.specs.Plain.{Values}
 use Rattle.bqn_rows.specs.Calls.{Arguments, no_arguments, alone, two, Call, End, Enter, Turn, Write, Inside}
 use Rattle.bqn_rows.specs.Running as running
-use Rattle.bqn_rows.specs.Running.{Res, Gives, Ends, then_do, Replies}
+use Rattle.bqn_rows.specs.Running.{Res, Gives, Ends, then_do}
 use Rattle.bqn_syntax.specs.declared.tree.Class.{Class}
 use Rattle.bqn_syntax.specs.grammar.Classes.{Calls, Monadic, Dyadic, Both}
 use Rattle.bqn_meaning.specs.Actions.{at as at_place, go_on, ◌>>=◌, pure, used}
 use Rattle.bqn_syntax.specs.blocks.Blocks as source
 use Rattle.bqn_syntax.specs.blocks.Blocks.{scopes_of}
 use Rattle.bqn_meaning.specs.Environments as s
-use Rattle.bqn_meaning.specs.Frames.{Setting, Frame}
+use Rattle.bqn_meaning.specs.Frames.{Setting, Entry, Frame}
 use Rattle.bqn_meaning.specs.Meaning as m
-use Rattle.bqn_meaning.specs.Meaning.{Ending, NextBody, EndsWith, eval_stmts, eval_body, body_answer, or_next, is_for, frame_of, try_body, try_bodies, enter_block}
+use Rattle.bqn_meaning.specs.Meaning.{Ending, NextBody, EndsWith, eval_body, or_next, is_for, frame_of, try_body, try_bodies, enter_block}
 use Rattle.bqn_syntax.specs.scope.Scope as scope
 use Rattle.bqn_code.specs.declared.code.Body.{Body}
 use Rattle.bqn_execution.specs.States as c
@@ -29,12 +29,12 @@ use Rattle.bqn_compile.specs.Counting.{past, in_header}
 use Rattle.bqn_compile.specs.Expressions.{at_lead}
 use Rattle.bqn_compile.specs.Bodies.{kind_code, put_header, put_stmts}
 use Rattle.bqn_simulation.specs.Views.{slots, view, onto, Same, Agree}
-use Rattle.bqn_simulation.proofs.Agree.{binds, pures, faults, ats}
-use Rattle.bqn_simulation.proofs.Look.{Linked, over}
-use Rattle.bqn_simulation.proofs.Fields.{Exporting}
-use Rattle.bqn_simulation.proofs.Expressions.{IsPlaced, Shared}
-use Rattle.bqn_simulation.proofs.Told.{HeaderTold, StmtsTold}
-use Rattle.bqn_simulation.proofs.Bodies.{ended, body_same}
+use Rattle.bqn_simulation.proofs.running.Agree.{binds, faults, finds, ats}
+use Rattle.bqn_simulation.proofs.running.Variables.{Linked, over}
+use Rattle.bqn_simulation.proofs.running.Fields.{Exporting}
+use Rattle.bqn_simulation.proofs.running.Shared.{IsPlaced, Shared}
+use Rattle.bqn_simulation.proofs.running.Told.{HeaderTold, StmtsTold}
+use Rattle.bqn_simulation.proofs.running.Bodies.{ended, body_same}
 
 -- ---- what the tables share
 
@@ -125,24 +125,31 @@ module _ (names : ℕ → List (List ℕ)) (tb : Table) (g : Setting) (alike : A
 
   -- ---- a block
 
-  module _ (b : source.Block) (x : BlockAt) (fits : BlockFits names tb g b x) (block outer : ℕ) (operands : Values) (xs : Arguments) where
-    frame_same : (body : source.Body) (k n : ℕ) → body_number x.here k ≡ body.own.number → e.frame tb g.args h2 x block outer operands xs (body_number x.here k) n ≡ over x.here (frame_of body n block b outer operands xs)
+  either : {A : Type 0} {m n : s.Does A} {o p : c.Does A} → Same V m o → Same V n p → (t : Bool) → Same V (elim t [ true ↦ m | false ↦ n ]) (elim t [ true ↦ o | false ↦ p ])
+  either p q true = p
+  either p q false = q
+
+  module _ (b : source.Block) (x : BlockAt) (fits : BlockFits names tb g b x) (run : Entry) where
+    -- the frame of a body of the source, and that of its code
+    abbrev frame : source.Body → ℕ → Frame
+    frame body n = frame_of run b.class body n
+
+    frame_same : (body : source.Body) (k n : ℕ) → body_number x.here k ≡ body.own.number → e.frame_of x run (body_number x.here k) n ≡ over x.here (frame body n)
     frame_same body k n q =
-        ap (λ j. e.frame tb g.args h2 x block outer operands xs j n) q
-        ∙ ap (λ (z : Class). record { here = x.here; block = block; class = z; body = body.own.number; environment = n; outer = outer; operands = operands; arguments = xs }) (sym fits.class)
+        ap (λ j. e.frame_of x run j n) q
+        ∙ ap (λ (z : Class). over x.here (frame_of run z body n)) (sym fits.class)
 
     -- a body in its environment, up to its end
     runs_body : (body : source.Body) (y : Body) (k n : ℕ) → BodyFits names tb g x.here k body y →
-        Same V (eval_body h g body (frame_of body n block b outer operands xs) >>= (λ r. pure (ended n body.exports r))) (exec tb g.args h2 (over x.here (frame_of body n block b outer operands xs)) (placed_code y) [])
+        Same V (eval_body h g body (frame body n) >>= (λ r. pure (ended n body.exports r))) (exec tb g.args h2 (over x.here (frame body n)) (placed_code y) [])
     runs_body body y k n f =
-        let fr : Frame = frame_of body n block b outer operands xs in
-        subst (λ is. Same V (eval_body h g body fr >>= (λ r. pure (ended n body.exports r))) (exec tb g.args h2 (over x.here fr) is [])) (sym f.code_is)
-        (body_same names tb x.here f.uses g fr h h2 (shared x.here fr f.linked f.placed) body.exports f.count body.header body.statements body.inside f.inside f.header f.statements)
+        subst (λ is. Same V (eval_body h g body (frame body n) >>= (λ r. pure (ended n body.exports r))) (exec tb g.args h2 (over x.here (frame body n)) is [])) (sym f.code_is)
+        (body_same names tb x.here f.uses g (frame body n) h h2 (shared x.here (frame body n) f.linked f.placed) body.exports f.count body.header body.statements body.inside f.inside f.header f.statements)
 
-    -- the next one, or its answer
+    -- its answer, or the next one
     answers : (body : source.Body) (y : Body) (k n : ℕ) → BodyFits names tb g x.here k body y → (next : s.Does plain.Value) (others : c.Does plain.Value) → Same V next others →
-        Same V (eval_body h g body (frame_of body n block b outer operands xs) >>= or_next next body (frame_of body n block b outer operands xs)) (exec tb g.args h2 (over x.here (frame_of body n block b outer operands xs)) (placed_code y) [] >>= or_else others)
-    answers body y k n f next others p = record { is = λ t. (binds V (runs_body body y k n f) on).is t ∙ ap (onto V) (at (eval_body h g body (frame_of body n block b outer operands xs) t)) }
+        Same V (eval_body h g body (frame body n) >>= or_next next body (frame body n)) (exec tb g.args h2 (over x.here (frame body n)) (placed_code y) [] >>= or_else others)
+    answers body y k n f next others p = record { is = λ t. (binds V (runs_body body y k n f) on).is t ∙ ap (onto V) (at (eval_body h g body (frame body n) t)) }
       where
         go : Ending → s.Does plain.Value
         go NextBody = next
@@ -150,46 +157,38 @@ module _ (names : ℕ → List (List ℕ)) (tb : Table) (g : Setting) (alike : A
 
         on : (r : Ending) → Same V (go r) (or_else others r)
         on NextBody = p
-        on (EndsWith p z) = ats V p (uses_it z)
-          where
-            uses_it : (z : Option plain.Value) → Same V (used z) (used z)
-            uses_it None = faults V _
-            uses_it (Some z) = pures V z
+        on (EndsWith p z) = ats V p (finds V _ z)
 
-        at : (r : Res s.State s.State (Result Ending Raised)) → then_do (then_do r (go_on (λ r. pure (ended n body.exports r)))) (go_on go) ≡ then_do r (go_on (or_next next body (frame_of body n block b outer operands xs)))
+        at : (r : Res s.State s.State (Result Ending Raised)) → then_do (then_do r (go_on (λ r. pure (ended n body.exports r)))) (go_on go) ≡ then_do r (go_on (or_next next body (frame body n)))
         at (Gives (Ok NextBody) u) = refl
         at (Gives (Ok (EndsWith p z)) u) = refl
         at (Gives (Err z) u) = refl
         at (Ends u) = refl
 
     tries_body : (body : source.Body) (y : Body) (k : ℕ) → BodyFits names tb g x.here k body y → (next : s.Does plain.Value) (others : c.Does plain.Value) → Same V next others →
-        Same V (try_body h g next body block b outer operands xs) (e.tried tb g.args h2 x block outer operands xs others (body_number x.here k) y)
+        Same V (try_body h g run b.class next body) (e.tried tb g.args h2 x run others (body_number x.here k) y)
     tries_body body y k f next others p =
-        subst (λ j. Same V (try_body h g next body block b outer operands xs) (c.stepped (e.within_new j y.slots outer (λ n. exec tb g.args h2 (e.frame tb g.args h2 x block outer operands xs (body_number x.here k) n) (placed_code y) [] >>= or_else others)))) (sym f.number)
-        (subst (λ j. Same V (try_body h g next body block b outer operands xs) (c.stepped (e.within_new body.own.number j outer (λ n. exec tb g.args h2 (e.frame tb g.args h2 x block outer operands xs (body_number x.here k) n) (placed_code y) [] >>= or_else others)))) (sym f.slots)
-        (steps (opens body.own.number outer (λ n. subst (λ fr. Same V (eval_body h g body (frame_of body n block b outer operands xs) >>= or_next next body (frame_of body n block b outer operands xs)) (exec tb g.args h2 fr (placed_code y) [] >>= or_else others)) (sym (frame_same body k n f.number)) (answers body y k n f next others p)))))
+        let ran : c.Calling → ℕ → c.Does plain.Value = λ l n. exec tb g.args l (e.frame_of x run (body_number x.here k) n) (placed_code y) [] >>= or_else others in
+        subst (λ j. Same V (try_body h g run b.class next body) (c.stepped (e.within_new j y.slots run.outer (ran h2)))) (sym f.number)
+        (subst (λ j. Same V (try_body h g run b.class next body) (c.stepped (e.within_new body.own.number j run.outer (ran h2)))) (sym f.slots)
+        (steps (opens body.own.number run.outer (λ n. subst (λ fr. Same V (eval_body h g body (frame body n) >>= or_next next body (frame body n)) (exec tb g.args h2 fr (placed_code y) [] >>= or_else others)) (sym (frame_same body k n f.number)) (answers body y k n f next others p)))))
 
-    tries_same : (k : ℕ) (bs : List source.Body) (ys : List Body) → BodiesFit names tb g x.here k bs ys → Same V (try_bodies h g bs block b outer operands xs) (e.tries tb g.args h2 x block outer operands xs k ys)
+    tries_same : (k : ℕ) (bs : List source.Body) (ys : List Body) → BodiesFit names tb g x.here k bs ys → Same V (try_bodies h g run b.class bs) (e.tries tb g.args h2 x run k ys)
     tries_same k [] [] f = faults V _
     tries_same k [] (y ∷ ys) f = elim f [ ]
     tries_same k (body ∷ bs) [] f = elim f [ ]
     tries_same k (body ∷ bs) (y ∷ ys) f =
-        let rest : Same V (try_bodies h g bs block b outer operands xs) (e.tries tb g.args h2 x block outer operands xs (suc k) ys) = tries_same (suc k) bs ys f.1 in
-        subst (λ t. Same V (try_bodies h g (body ∷ bs) block b outer operands xs) (elim t [ true ↦ e.tried tb g.args h2 x block outer operands xs (e.tries tb g.args h2 x block outer operands xs (suc k) ys) (body_number x.here k) y | false ↦ e.tries tb g.args h2 x block outer operands xs (suc k) ys ])) (sym (ap (λ z. is_meant z xs) f.0.kind ∙ meant_same body.calls xs))
-        (by (tries_body body y k f.0 _ _ rest) rest (is_for body.calls xs))
-      where
-        by : Same V (try_body h g (try_bodies h g bs block b outer operands xs) body block b outer operands xs) (e.tried tb g.args h2 x block outer operands xs (e.tries tb g.args h2 x block outer operands xs (suc k) ys) (body_number x.here k) y) →
-            Same V (try_bodies h g bs block b outer operands xs) (e.tries tb g.args h2 x block outer operands xs (suc k) ys) → (t : Bool) →
-            Same V (elim t [ true ↦ try_body h g (try_bodies h g bs block b outer operands xs) body block b outer operands xs | false ↦ try_bodies h g bs block b outer operands xs ]) (elim t [ true ↦ e.tried tb g.args h2 x block outer operands xs (e.tries tb g.args h2 x block outer operands xs (suc k) ys) (body_number x.here k) y | false ↦ e.tries tb g.args h2 x block outer operands xs (suc k) ys ])
-        by p q true = p
-        by p q false = q
+        let rest : Same V (try_bodies h g run b.class bs) (e.tries tb g.args h2 x run (suc k) ys) = tries_same (suc k) bs ys f.1 in
+        subst (λ t. Same V (try_bodies h g run b.class (body ∷ bs)) (elim t [ true ↦ e.tried tb g.args h2 x run (e.tries tb g.args h2 x run (suc k) ys) (body_number x.here k) y | false ↦ e.tries tb g.args h2 x run (suc k) ys ]))
+        (sym (ap (λ z. is_meant z run.arguments) f.0.kind ∙ meant_same body.calls run.arguments))
+        (either (tries_body body y k f.0 _ _ rest) rest (is_for body.calls run.arguments))
 
-  enters_same : (block outer : ℕ) (operands : Values) (xs : Arguments) → Same V (enter_block h g (slice_get g.blocks block) block outer operands xs) (e.entered tb g.args h2 (slice_get tb.blocks block) block outer operands xs)
-  enters_same block outer operands xs = by (slice_get g.blocks block) (slice_get tb.blocks block) (alike.blocks block)
+  enters_same : (run : Entry) → Same V (enter_block h g (slice_get g.blocks run.block) run) (e.entered tb g.args h2 (slice_get tb.blocks run.block) run)
+  enters_same run = by (slice_get g.blocks run.block) (slice_get tb.blocks run.block) (alike.blocks run.block)
     where
-      by : (o : Option source.Block) (p : Option BlockAt) → Fits names tb g o p → Same V (enter_block h g o block outer operands xs) (e.entered tb g.args h2 p block outer operands xs)
+      by : (o : Option source.Block) (p : Option BlockAt) → Fits names tb g o p → Same V (enter_block h g o run) (e.entered tb g.args h2 p run)
       by None None f = faults V _
-      by (Some b) (Some x) f = tries_same b x f block outer operands xs x.first b.bodies x.block.bodies f.bodies
+      by (Some b) (Some x) f = tries_same b x f run x.first b.bodies x.block.bodies f.bodies
       by None (Some x) f = elim f [ ]
       by (Some b) None f = elim f [ ]
 
@@ -229,6 +228,6 @@ module _ (names : ℕ → List (List ℕ)) (tb : Table) (g : Setting) (alike : A
   calls_same (suc room) =
       let inner : Agree W (running.calls (m.replies g) room) (e.runs tb g.args room) = calls_same room in
       record {
-        run = run_same (λ b n fs xs. enter_block (running.calls (m.replies g) room) g (slice_get g.blocks b) b n fs xs) (λ b n fs xs. e.entered tb g.args (e.runs tb g.args room) (slice_get tb.blocks b) b n fs xs) (running.calls (m.replies g) room) (e.runs tb g.args room)
-            (λ b n fs xs. enters_same names tb g alike (running.calls (m.replies g) room) (e.runs tb g.args room) inner b n fs xs) inner;
+        run = run_same ((m.replies g).enter room (running.calls (m.replies g) room)) ((e.replies tb g.args).enter room (e.runs tb g.args room)) (running.calls (m.replies g) room) (e.runs tb g.args room)
+            (λ b n fs xs. enters_same names tb g alike (running.calls (m.replies g) room) (e.runs tb g.args room) inner (record { block = b; outer = n; operands = fs; arguments = xs })) inner;
       }

@@ -11,20 +11,22 @@ use Rattle.bqn_syntax.specs.grammar.Trees.{Stmts}
 use Rattle.bqn_syntax.specs.scope.Scope.{same_name, has}
 use Rattle.bqn_meaning.specs.Actions.{go_on, ◌>>=◌, pure, fault}
 use Rattle.bqn_syntax.specs.blocks.Blocks as source
-use Rattle.bqn_syntax.specs.blocks.Blocks.{Earlier, further, line_body, table_of}
+use Rattle.bqn_syntax.specs.blocks.Blocks.{Earlier, further, line_body}
 use Rattle.bqn_meaning.specs.Environments as s
 use Rattle.bqn_meaning.specs.Frames.{Setting}
 use Rattle.bqn_meaning.specs.Meaning as m
-use Rattle.bqn_meaning.specs.Meaning.{Ending, NextBody, EndsWith, eval_body, names_before, with_names, with_old_names, line_frame, line_answer, line}
+use Rattle.bqn_meaning.specs.Meaning.{Ending, NextBody, EndsWith, eval_body}
+use Rattle.bqn_meaning.specs.Sessions as l
+use Rattle.bqn_meaning.specs.Sessions.{names_before, with_names, with_old_names, line_setting, line_frame, line_answer, line}
 use Rattle.bqn_execution.specs.States as c
 use Rattle.bqn_code.specs.Numbering.{Table, BodyAt}
 use Rattle.bqn_execution.specs.Execution as e
 use Rattle.bqn_execution.specs.Programs as p
 use Rattle.bqn_compile.proofs.verified.slots.Fronts.{same_equal, same_itself}
 use Rattle.bqn_simulation.specs.Views.{slots, view, onto, Same, Agree}
-use Rattle.bqn_simulation.proofs.Agree.{binds, pures, faults}
-use Rattle.bqn_simulation.proofs.Bodies.{ended, body_same}
-use Rattle.bqn_simulation.proofs.Calls.{BodyFits, Alike, shared, steps, calls_same}
+use Rattle.bqn_simulation.proofs.running.Agree.{binds, pures, faults}
+use Rattle.bqn_simulation.proofs.running.Bodies.{ended, body_same}
+use Rattle.bqn_simulation.proofs.running.Calls.{BodyFits, Alike, shared, steps, calls_same}
 
 -- ---- what a line declares has no value yet
 
@@ -93,10 +95,10 @@ left_over old more all q = omega (arith, q)
 -- ---- the line
 
 pub record LineFits (earlier : Earlier) (ss : Stmts) (args : Value) (tb : Table) : Type 0 where
-  pub alike : Alike (names_before (further earlier ss)) tb (record { blocks = table_of earlier ss; args = args })
+  pub alike : Alike (names_before (further earlier ss)) tb (line_setting earlier args ss)
   pub top : BodyAt
   pub top_is : slice_get tb.bodies 0 ≡ Some top
-  pub fits : BodyFits (names_before (further earlier ss)) tb (record { blocks = table_of earlier ss; args = args }) top.here 0 (line_body earlier ss) top.body
+  pub fits : BodyFits (names_before (further earlier ss)) tb (line_setting earlier args ss) top.here 0 (line_body earlier ss) top.body
   pub widths : (k : ℕ) → p.slots_in (slice_get tb.bodies k) ≡ length (names_before (further earlier ss) k)
   pub grows : (k : ℕ) → Grows (names_before earlier k) (names_before (further earlier ss) k)
 
@@ -108,7 +110,7 @@ module _ (earlier : Earlier) (ss : Stmts) (args : Value) (tb : Table) (fits : Li
   new = names_before (further earlier ss)
 
   abbrev g : Setting
-  g = record { blocks = table_of earlier ss; args = args }
+  g = line_setting earlier args ss
 
   begins_as : (x : s.Environment) → slots new (with_old_names earlier x) ≡ p.widened tb (slots old x)
   begins_as x =
@@ -126,7 +128,7 @@ module _ (earlier : Earlier) (ss : Stmts) (args : Value) (tb : Table) (fits : Li
   all_begin [] = refl
   all_begin (x ∷ es) = λ i. begins_as x i ∷ all_begin es i
 
-  begun_as : (t : s.State) → p.begun tb (view old t) ≡ view new (m.begun earlier t)
+  begun_as : (t : s.State) → p.begun tb (view old t) ≡ view new (l.begun earlier t)
   begun_as t = ap (λ es. record { environments = es; written = t.written; left = t.left }) (sym (all_begin t.environments))
 
   -- how a line ends
@@ -156,4 +158,4 @@ module _ (earlier : Earlier) (ss : Stmts) (args : Value) (tb : Table) (fits : Li
       (body_same new tb fits.top.here fits.fits.uses g (line_frame b) (running.calls (m.replies g) room) (e.runs tb args room) (shared new tb g fits.alike (running.calls (m.replies g) room) (e.runs tb args room) inner fits.top.here (line_frame b) fits.fits.linked fits.fits.placed) b.exports fits.fits.count b.header b.statements b.inside fits.fits.inside fits.fits.header fits.fits.statements) in
       ap (λ x. p.run_top tb args room x (view old t)) fits.top_is
       ∙ (ap (λ u. c.stepped (e.exec tb args (e.runs tb args room) (p.top_frame fits.top) (e.placed_code fits.top.body) [] >>= p.top_answer) u) (begun_as t)
-      ∙ (steps new tb g fits.alike (running.calls (m.replies g) room) (e.runs tb args room) inner (ends b (eval_body (running.calls (m.replies g) room) g b (line_frame b)) (binds (view new) body end_same))).is (m.begun earlier t))
+      ∙ (steps new tb g fits.alike (running.calls (m.replies g) room) (e.runs tb args room) inner (ends b (eval_body (running.calls (m.replies g) room) g b (line_frame b)) (binds (view new) body end_same))).is (l.begun earlier t))

@@ -15,7 +15,7 @@ use Rattle.bqn_code.specs.Plain.{Code}
 use Rattle.bqn_compile.specs.declared.count.Count.{Count}
 use Rattle.bqn_compile.specs.Counting.{past, one_block, in_token, in_targets, in_expr, in_part, in_block, in_maybe, in_steps, in_step, in_derived, in_uses, in_use, in_deriveds, in_exprs, in_parts, in_stmts, in_header}
 use Rattle.bqn_compile.specs.Expressions.{Setting, at_lead}
-use Rattle.bqn_simulation.proofs.PlacedCodes.{placed_is}
+use Rattle.bqn_simulation.proofs.standing.PlacedCodes.{placed_is}
 use Rattle.bqn_execution.specs.Execution.{placed_code}
 use Rattle.bqn_syntax.specs.blocks.Leads.{at_start}
 use Rattle.bqn_syntax.specs.blocks.Counting.{how_many}
@@ -26,9 +26,9 @@ use Rattle.bqn_compile.proofs.verified.pools.Items.{Item, EachItem, expr_items, 
 use Rattle.bqn_compile.proofs.verified.pools.CodePasses.{each_front, each_back, steps_counted, part_counted, maybe_counted, derived_counted, use_counted, expr_counted, targets_counted}
 use Rattle.bqn_compile.proofs.verified.blocks.BlockCounts.{Counts, NoBlocks, targets_none, token_none, expr_counts, part_counts, maybe_counts, steps_counts, derived_counts, use_counts}
 use Rattle.bqn_compile.proofs.verified.blocks.BlockPlaces.{Stand, stand_front, stand_past}
-use Rattle.bqn_simulation.proofs.Mentioned.{InsideSeen}
-use Rattle.bqn_simulation.proofs.BodyCounts.{count_bodies}
-use Rattle.bqn_simulation.proofs.Told as told
+use Rattle.bqn_simulation.proofs.standing.Mentioned.{InsideSeen}
+use Rattle.bqn_simulation.proofs.standing.MentionedBodies.{count_bodies}
+use Rattle.bqn_simulation.proofs.running.Told as told
 use Rattle.bqn_syntax.specs.grammar.Trees.{body, no_bodies, and_bodies, Stmt}
 use Rattle.bqn_syntax.specs.declared.token.Token.{Token}
 use Rattle.bqn_syntax.specs.scope.Order.{How, order_of}
@@ -47,14 +47,14 @@ use Rattle.bqn_compile.proofs.verified.blocks.BlockCounts.{bodies_in, many_bodie
 use Rattle.bqn_compile.proofs.verified.blocks.BlockPlaces.{stand_behind}
 use Rattle.bqn_compile.proofs.verified.pools.CodePasses.{header_counted, stmt_counted, body_counted}
 use Rattle.std.proofs.lemmas.Option.{none-some}
-use Rattle.bqn_simulation.proofs.Exported.{AllExported, InsideExported}
-use Rattle.bqn_simulation.proofs.Named.{BlockNamed, InsideNamed}
-use Rattle.bqn_simulation.proofs.UseCounts.{body_uses}
-use Rattle.bqn_simulation.proofs.BodyCounts.{body_many}
-use Rattle.bqn_simulation.proofs.Places as blocks
-use Rattle.bqn_simulation.proofs.BodyPlaces as bodies
-use Rattle.bqn_simulation.proofs.Tells as tells
-use Rattle.bqn_simulation.proofs.Tells.{Tell, ItemPooled}
+use Rattle.bqn_simulation.proofs.standing.Exported.{AllExported, InsideExported}
+use Rattle.bqn_simulation.proofs.standing.Named.{BlockNamed, InsideNamed}
+use Rattle.bqn_simulation.proofs.standing.MentionedUses.{body_uses}
+use Rattle.bqn_simulation.proofs.standing.MentionedBodies.{body_many}
+use Rattle.bqn_simulation.proofs.running.BlockCounts as blocks
+use Rattle.bqn_simulation.proofs.standing.BodyCounts as bodies
+use Rattle.bqn_simulation.proofs.standing.Tells as tells
+use Rattle.bqn_simulation.proofs.standing.Tells.{Tell, ItemPooled}
 
 module _ (uses : List scope.Use) (code : Code) (names : List BodyNames) (top : Scope) (before_blocks before_bodies : ℕ) where
   abbrev pub g : Setting

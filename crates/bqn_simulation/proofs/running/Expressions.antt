@@ -1,12 +1,12 @@
 -- The code of an expression does what the expression does, where calls run alike.
-use Rattle.std.proofs.Common.{◌≡◌, ℕ, zero, suc, ◌+◌, ◌<◌, Bool, true, false, nat_eq, List, [], ◌∷◌, ◌++◌, length, position, slice_get, Option, Some, None, Result, Ok, Err, refl, sym, ap, ◌∙◌, subst, append_assoc, append-nil, arith}
+use Rattle.std.proofs.Common.{◌≡◌, ℕ, zero, suc, ◌+◌, ◌<◌, Bool, true, false, nat_eq, List, [], ◌∷◌, ◌++◌, length, position, Option, Some, None, Result, Ok, Err, refl, sym, ap, ◌∙◌, subst, append_assoc, append-nil, arith}
 use Rattle.bqn_base.specs.declared.fault.Fault.{Fault}
 use Rattle.bqn_base.specs.declared.place.Place.{Place}
 use Rattle.bqn_rows.specs.Raised.{Raised, placed}
 use Rattle.bqn_syntax.specs.blocks.Leads.{or_else, pattern_lead, part_lead, derived_lead, deriveds_lead, exprs_lead, parts_lead, modifier_lead}
-use Rattle.bqn_base.specs.declared.fault.Fault.TheVariants.{NothingUsed, Undefined}
+use Rattle.bqn_base.specs.declared.fault.Fault.TheVariants.{Undefined}
 use Rattle.bqn_rows.specs.Plain as plain
-use Rattle.bqn_rows.specs.Plain.{Given, Values, is_given}
+use Rattle.bqn_rows.specs.Plain.{Given}
 use Rattle.bqn_rows.specs.Calls.{Call, call}
 use Rattle.bqn_rows.specs.Running.{Res, Gives, Ends, then_do}
 use Rattle.bqn_syntax.specs.declared.token.Kind.{Kind}
@@ -22,12 +22,12 @@ use Rattle.bqn_syntax.specs.grammar.Trees.{Pattern, Name, Skip, Literal, ListPat
 use Rattle.bqn_syntax.specs.scope.Scope as scope
 use Rattle.bqn_syntax.specs.scope.Scope.{name_of, same_name, system_names}
 use Rattle.bqn_syntax.specs.blocks.Counting.{in_expr, in_part, in_steps, in_derived, in_use}
-use Rattle.bqn_meaning.specs.Actions.{at as at_place, go_on, ◌>>=◌, pure, fault, known, found, used}
+use Rattle.bqn_meaning.specs.Actions.{at as at_place, go_on, ◌>>=◌, pure, known, found, used}
 use Rattle.bqn_syntax.specs.blocks.Blocks.{class_of}
 use Rattle.bqn_meaning.specs.Environments as s
 use Rattle.bqn_meaning.specs.Frames.{Setting, Frame, given, literal, special_value, system_at, leaf, left_operand, right_operand, modifier_of, there}
-use Rattle.bqn_meaning.specs.Matching.{Fits, must_fit, field, store, store_named, stays as stays_in, assigned, bind}
-use Rattle.bqn_meaning.specs.Deriving.{as_read, listed, elements, list_of, merged, standing, with_one, with_two, modified_one, modified_two, Reading, Unread, Read, Behind, atop, fork, as_part, and_part, train, applied}
+use Rattle.bqn_meaning.specs.Matching.{Fits, must_fit, field, store, store_named, assigned, bind}
+use Rattle.bqn_meaning.specs.Deriving.{listed, elements, list_of, merged, standing, with_one, with_two, modified_one, modified_two, Reading, Unread, Read, Behind, atop, fork, and_part, train, applied}
 use Rattle.bqn_meaning.specs.Meaning.{fields, present, changed_to, eval_expr, eval_part, eval_steps, eval_step, eval_derived, eval_uses, eval_use, eval_deriveds, eval_exprs, eval_parts}
 use Rattle.bqn_code.specs.declared.constant.Const.{Const}
 use Rattle.bqn_code.specs.declared.constant.Const.TheVariants as const
@@ -49,28 +49,17 @@ use Rattle.bqn_compile.specs.Counting.{past, in_token, in_targets}
 use Rattle.bqn_compile.specs.Pools.{constant_number, name_number, seen_at}
 use Rattle.bqn_compile.specs.Expressions as code
 use Rattle.bqn_compile.specs.Expressions.{at_lead, leaf_instr, special_instr, system_instr, block_instr, target_instr, parts_read, and_one, put_fork, put_atop, how_many_exprs, how_many_parts, derive_instr}
-use Rattle.bqn_simulation.specs.Views.{view, Same, Agree}
-use Rattle.bqn_simulation.proofs.Agree.{binds, pures, faults, knows, uses, gives, ats, Only, only_pure, only_known, only_at, only_bind, only_any}
-use Rattle.bqn_simulation.proofs.Acts.{push, as_is, Side, Acts, seq, framed, still, recoded, treed, grouped, nested, single, single_value, seq3, mapped, seq_where}
+use Rattle.bqn_simulation.specs.Views.{view, Same}
+use Rattle.bqn_simulation.proofs.running.Agree.{binds, pures, faults, knows, uses, gives, Only, only_pure, only_known, only_at, only_bind, only_any}
+use Rattle.bqn_simulation.proofs.running.Acts.{push, as_is, Side, Acts, seq, framed, still, recoded, treed, grouped, nested, single, single_value, seq3, mapped, seq_where}
 use Rattle.bqn_compile.proofs.verified.slots.Fronts.{some_same}
-use Rattle.bqn_simulation.proofs.Look.{Linked, over, looks, changes, defines}
-use Rattle.bqn_simulation.proofs.Stacks.{pile, taken_all, Shaped, laid, shaped_more}
-use Rattle.bqn_simulation.proofs.Places.{token_blocks, targets_blocks, expr_same, part_same, steps_same, derived_same, use_same}
-use Rattle.bqn_simulation.proofs.Fields.{Exporting, field_same}
-use Rattle.bqn_simulation.proofs.Patterns.{bind_same}
-use Rattle.bqn_simulation.proofs.Told as told
-
--- the blocks of a code have their classes in the table
-abbrev pub IsPlaced : Table → Placed → Type 0
-IsPlaced tb here = (k : ℕ) (b : Block) → slice_get here.code.blocks k ≡ Some b → 0 < k → numbering.class_of tb (here.blocks + k) ≡ Some b.class
-
--- what both sides share, where the code of a body is
-pub record Shared (names : ℕ → List (List ℕ)) (tb : Table) (here : Placed) (g : Setting) (f : Frame) (h : s.Calling) (h2 : c.Calling) : Type 0 where
-  pub linked : Linked names tb f.scopes
-  pub agree : Agree (view names) h h2
-  pub classes : (k : ℕ) → class_of g.blocks k ≡ numbering.class_of tb k
-  pub exporting : Exporting names tb g.blocks
-  pub placed : IsPlaced tb here
+use Rattle.bqn_simulation.proofs.running.Variables.{over, looks, changes, defines}
+use Rattle.bqn_simulation.proofs.running.Stacks.{read_same, part_is, regroup, pile, taken_all, Shaped, laid, shaped_more}
+use Rattle.bqn_simulation.proofs.running.BlockCounts.{token_blocks, targets_blocks, expr_same, part_same, steps_same, derived_same, use_same}
+use Rattle.bqn_simulation.proofs.running.Fields.{field_same}
+use Rattle.bqn_simulation.proofs.running.Patterns.{bind_same}
+use Rattle.bqn_simulation.proofs.running.Told as told
+use Rattle.bqn_simulation.proofs.running.Shared.{Shared}
 
 module _ (names : ℕ → List (List ℕ)) (tb : Table) (here : Placed) (name_uses : List scope.Use) (g : Setting) (f : Frame) (h : s.Calling) (h2 : c.Calling) (given' : Shared names tb here g f h h2) (lead : Place) where
   abbrev pub V : s.State → c.State
@@ -296,20 +285,6 @@ module _ (names : ℕ → List (List ℕ)) (tb : Table) (here : Placed) (name_us
 
   -- ---- trains
 
-  abbrev known_read : Place → Result plain.Value Fault → s.Does Reading
-  known_read p r = at_place p (known r) >>= (λ x. pure (Read (Some x)))
-
-  abbrev known_some : Place → Result plain.Value Fault → s.Does (Option plain.Value)
-  known_some p r = at_place p (known r) >>= (λ x. pure (Some x))
-
-  read_same : (p : Place) (r : Result plain.Value Fault) (s : s.State) → known_read p r s ≡ at_place p (known (as_read r)) s
-  read_same p (Ok x) s = refl
-  read_same p (Err e) s = refl
-
-  part_is : (p : Place) (r : Result plain.Value Fault) (s : s.State) → known_some p r s ≡ at_place p (known (as_part r)) s
-  part_is p (Ok x) s = refl
-  part_is p (Err e) s = refl
-
   fork_acts : (q : Place) (p : Shape) (r : Reading) → Shaped p r → (z : Option plain.Value) → Acts o (put_fork (λ i. (i, q)) p) (at_place q (known (and_part r z))) (λ st. z ∷ laid r st) laid
   fork_acts q shape.No Unread d z = record { runs = λ is st t. refl }
   fork_acts q shape.One (Read k) d z = record { runs = λ is st t. refl }
@@ -340,15 +315,6 @@ module _ (names : ℕ → List (List ℕ)) (tb : Table) (here : Placed) (name_us
       only_bind (Shaped (parts_read ds)) (Shaped (and_one (parts_read ds))) (deriveds_shaped ds (n + (in_derived d).blocks))
       (λ r q. only_bind (λ z. Unit {0}) (Shaped (and_one (parts_read ds))) (only_any (eval_derived h g f lead d n))
       (λ z u. only_at (Shaped (and_one (parts_read ds))) (on (derived_lead d)) (only_known (Shaped (and_one (parts_read ds))) (and_part r z) (λ x e. shaped_more (parts_read ds) r z x q e))))
-
-  -- ---- modifiers
-
-  regroup : (us u xs d ds : List (Instr × Place)) → (us ++ ((u ++ xs) ++ d)) ++ ds ≡ ((us ++ u) ++ xs) ++ (d ++ ds)
-  regroup us u xs d ds =
-      append_assoc us ((u ++ xs) ++ d) ds
-      ∙ ap (λ z. us ++ z) (append_assoc (u ++ xs) d ds)
-      ∙ sym (append_assoc us (u ++ xs) (d ++ ds))
-      ∙ ap (λ z. z ++ (d ++ ds)) (sym (append_assoc us u xs))
 
   -- ---- where blocks are
 

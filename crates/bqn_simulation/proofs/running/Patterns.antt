@@ -32,11 +32,11 @@ use Rattle.bqn_compile.specs.Pools.{constant_of, name_number, seen_at}
 use Rattle.bqn_compile.specs.Patterns.{stored_leaf, literal_leaf, pattern_code, patterns_code}
 use Rattle.bqn_rows.specs.Running.{Res, Gives, Ends, then_do}
 use Rattle.bqn_simulation.specs.Views.{view, onto, Same}
-use Rattle.bqn_simulation.proofs.Agree.{binds, pures, faults, where_same}
+use Rattle.bqn_simulation.proofs.running.Agree.{binds, pures, faults, where_same}
 use Rattle.bqn_compile.proofs.verified.slots.Fronts.{some_same}
-use Rattle.bqn_simulation.proofs.Look.{Linked, over, changes, defines}
-use Rattle.bqn_simulation.proofs.Fields.{Exporting, has_field, field_same}
-use Rattle.bqn_simulation.proofs.Told as told
+use Rattle.bqn_simulation.proofs.running.Variables.{Linked, over, changes, defines}
+use Rattle.bqn_simulation.proofs.running.Fields.{Exporting, has_field, field_same}
+use Rattle.bqn_simulation.proofs.running.Told as told
 
 module _ (names : ℕ → List (List ℕ)) (tb : Table) (here : Placed) (uses : List scope.Use) (g : Setting) (f : Frame) (l : Linked names tb f.scopes) (x : Exporting names tb g.blocks) (a : Arrow) (cs : List Const) (ns : List (List ℕ)) where
   abbrev V : s.State → c.State

@@ -1,0 +1,22 @@
+-- The half that stands still: the code of a source fits it. What names refer to, pools, counts and tables, up to all lines of a session.
+pub mod PlacedCodes
+pub mod Mentioned
+pub mod MentionedUses
+pub mod Named
+pub mod MentionedBodies
+pub mod BodyCounts
+pub mod Punctuation
+pub mod HeaderArguments
+pub mod Tells
+pub mod Zips
+pub mod OneLine
+pub mod Linking
+pub mod Fitting
+pub mod Pools
+pub mod Tables
+pub mod Indexed
+pub mod EarlierLines
+pub mod Further
+pub mod AllLines
+pub mod Exported
+pub mod Exports
