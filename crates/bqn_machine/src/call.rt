@@ -3,10 +3,10 @@ ghost use Rattle.bqn_machine.specs.Evaluation.{answer_of, output_of};
 ghost use Rattle.bqn_machine.specs.Running.{Calls};
 
 use crate::end::End;
+use crate::function::Function;
 use crate::line::number_line;
 use bqn_base::{Fault, num};
 use bqn_io::Sink;
-use crate::function::Function;
 use std::alloc::Global;
 
 fn answer(function: Function, left: Option<i64>, x: i64) -> Result<i64, Fault>

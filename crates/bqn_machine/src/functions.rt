@@ -4,10 +4,9 @@ ghost use Rattle.bqn_machine.specs.Form.{given_function, kind_function, part_fun
 ghost use Rattle.bqn_machine.specs.Form.{function_of as function_in};
 ghost use Rattle.bqn_syntax.specs.grammar.Trees.{derived_of, part_of};
 
+use crate::function::Function;
 use bqn_base::{Name, Role};
 use bqn_syntax::{Derived, Kind, Part};
-
-use crate::function::Function;
 
 fn is_show(name: &Name) -> bool
     ensures { result ≡ pointwise nat_eq name.now (codes "show") }

@@ -5,9 +5,9 @@ ghost use Rattle.bqn_machine.specs.Running.{act, loaded, top_act, vars_behind, A
 use crate::call::call;
 use crate::code::Instr;
 use crate::end::End;
+use crate::function::Function;
 use bqn_base::Fault;
 use bqn_io::Sink;
-use crate::function::Function;
 use std::alloc::Global;
 
 /// Calls a function on the number at the top.

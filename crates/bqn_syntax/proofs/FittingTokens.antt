@@ -82,9 +82,9 @@ single_kind-stands c = at (c == 64) (special_of c) (position (λ d. d == c) (pri
   where
     at : (zero : Bool) (special : Option Special) (code : Option ℕ) → position (λ d. d == c) (primitive_functions ++ primitive_modifiers) ≡ code
         → Stands (if zero then kind.Char 0 else elim special as (λ _. Kind) [
-            | Some name ↦ kind.Special name (role_of (c ∷ []))
-            | None ↦ elim (option_map (λ code. kind.Given code) code) as (λ _. Kind) [ Some k ↦ k | None ↦ kind.Punct c ]
-          ])
+          | Some name ↦ kind.Special name (role_of (c ∷ []))
+          | None ↦ elim (option_map (λ code. kind.Given code) code) as (λ _. Kind) [ Some k ↦ k | None ↦ kind.Punct c ]
+        ])
     at true special code is = record { fits = tt; begins = tt }
     at false (Some name) code is = record { fits = tt; begins = tt }
     at false None (Some code) is = record { fits = (position-Some (λ d. d == c) (primitive_functions ++ primitive_modifiers) code 0 is).0; begins = tt }

@@ -27,7 +27,7 @@ abbrev pub exports_of : List (List ℕ) → Mentions → List (List ℕ × ℕ) 
 exports_of names no_mentions found = found
 exports_of names (and_mentions (Named how t) ms) found =
     if exports_it how then (if has (map (λ e. e.0) found) (name_of t) then exports_of names ms found
-        else exports_of names ms (at_slot (name_of t) (place_of names (name_of t)) found))
+    else exports_of names ms (at_slot (name_of t) (place_of names (name_of t)) found))
     else exports_of names ms found
 exports_of names (and_mentions m ms) found = exports_of names ms found
 
@@ -57,7 +57,7 @@ abbrev mutual
 abbrev pub bodies_of : List (List ℕ) → Stmts → List BodyNames
 bodies_of outer ss =
     inside 0 (stmts_mentions ss no_mentions) (body_names (length outer) (top_scope outer (stmts_mentions ss no_mentions) (order_of None ss))
-        (stmts_mentions ss no_mentions) ∷ [])
+    (stmts_mentions ss no_mentions) ∷ [])
 
 -- what resolving a tree after the names of a session gives
 pub record Resolution : Type 0 where

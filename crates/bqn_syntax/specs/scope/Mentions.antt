@@ -57,7 +57,7 @@ abbrev pub header_mentions : Option Header → Mentions → Mentions
 header_mentions None k = k
 header_mentions (Some h) k =
     argument_mentions h.left (token_mentions Defines h.left_operand
-        (leaf_mention Defines h.own.kind h.own (token_mentions Defines h.right_operand (argument_mentions h.right k))))
+    (leaf_mention Defines h.own.kind h.own (token_mentions Defines h.right_operand (argument_mentions h.right k))))
 
 abbrev pub target_mentions : List (Token × Arrow) → Mentions → Mentions
 target_mentions [] k = k
