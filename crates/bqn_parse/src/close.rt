@@ -9,8 +9,8 @@ ghost use Rattle.bqn_parse.specs.Walking.{around_shown, bracket_shown, walk_show
 
 use crate::blocks::block;
 use crate::draft::{Draft, boxed};
-use crate::growth::{push, taken};
 use crate::error::ParseError;
+use crate::growth::{push, taken};
 use crate::item::{Element, Item};
 use crate::judge::end;
 use crate::open_bracket::{OpenBracket, Walk};
@@ -75,7 +75,11 @@ fn whole_block<'t>(alloc: Global, inner: &mut OpenBracket<'t>) -> Result<Element
 
 /// What an open bracket is as one element, where it closes at this place.
 #[tactic(auto, using(bqn_syntax::specs::grammar::TreeEquations::tree_equations))]
-fn whole<'t>(alloc: Global, place: Place, inner: &mut OpenBracket<'t>) -> Result<Element<'t>, ParseError>
+fn whole<'t>(
+    alloc: Global,
+    place: Place,
+    inner: &mut OpenBracket<'t>,
+) -> Result<Element<'t>, ParseError>
     ensures { (tokens : List Token) → Made (parsing.whole inner.old.inside place (bracket_shown tokens inner.old)) element_of result }
 {
     match inner.inside {

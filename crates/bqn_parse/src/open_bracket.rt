@@ -6,8 +6,8 @@ ghost use Rattle.bqn_syntax.specs.declared.token.Token.{Token};
 ghost use Rattle.bqn_parse.specs.Views.{item_of};
 ghost use Rattle.bqn_parse.specs.Walking.{bracket_shown, Moves};
 
-use crate::growth::{push, taken};
 use crate::error::ParseError;
+use crate::growth::{push, taken};
 use crate::item::Item;
 use crate::unit::Unit;
 use bqn_base::{Memory, Place, Row};

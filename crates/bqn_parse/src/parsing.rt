@@ -8,9 +8,9 @@ ghost use Rattle.bqn_parse.specs.Walking.{start, walk_shown};
 
 use crate::error::ParseError;
 use crate::judge::end;
-use crate::open_bracket::{Walk, new_bracket};
 use crate::looks::{Ahead, ahead_of, aheads};
 use crate::one_token::step;
+use crate::open_bracket::{Walk, new_bracket};
 use bqn_base::{Place, Refusal, Row};
 use bqn_grammar::{only_well_trees_are_found, well_trees_are_found};
 use bqn_roles::{NestError, nest};

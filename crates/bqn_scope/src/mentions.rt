@@ -42,11 +42,7 @@ fn pattern<'a>(mentions: &mut Vec<Mention<'a>>, how: How, q: &'a Pattern) -> Res
 
 #[cycle(pattern)]
 #[tactic(auto, using(bqn_syntax::specs::grammar::TreeEquations::tree_equations, crate::specs::Equations::of_mentions, crate::proofs::Backward::backward_laws))]
-fn patterns<'a>(
-    mentions: &mut Vec<Mention<'a>>,
-    how: How,
-    all: &'a [Pattern],
-) -> Result<(), Memory>
+fn patterns<'a>(mentions: &mut Vec<Mention<'a>>, how: How, all: &'a [Pattern]) -> Result<(), Memory>
     ensures { OnOk result (mentions_backward mentions.new.items
         ≡ patterns_mentions (how_shown how) (patterns (map pattern_of all.now)) (mentions_backward mentions.old.items)) }
 {
@@ -159,11 +155,7 @@ fn step<'a>(alloc: Global, mentions: &mut Vec<Mention<'a>>, s: &'a Step) -> Resu
 
 #[cycle(mentions)]
 #[tactic(auto, using(bqn_syntax::specs::grammar::TreeEquations::tree_equations, crate::specs::Equations::of_mentions, crate::proofs::Backward::backward_laws))]
-fn derived<'a>(
-    alloc: Global,
-    mentions: &mut Vec<Mention<'a>>,
-    d: &'a Derived,
-) -> Result<(), Memory>
+fn derived<'a>(alloc: Global, mentions: &mut Vec<Mention<'a>>, d: &'a Derived) -> Result<(), Memory>
     ensures { OnOk result (mentions_backward mentions.new.items ≡ derived_mentions (derived_of d.now) (mentions_backward mentions.old.items)) }
 {
     uses(alloc, mentions, d.uses.list())?;
@@ -172,11 +164,7 @@ fn derived<'a>(
 
 #[cycle(mentions)]
 #[tactic(auto, using(bqn_syntax::specs::grammar::TreeEquations::tree_equations, crate::specs::Equations::of_mentions, crate::proofs::Backward::backward_laws))]
-fn modifier<'a>(
-    alloc: Global,
-    mentions: &mut Vec<Mention<'a>>,
-    u: &'a ModUse,
-) -> Result<(), Memory>
+fn modifier<'a>(alloc: Global, mentions: &mut Vec<Mention<'a>>, u: &'a ModUse) -> Result<(), Memory>
     ensures { OnOk result (mentions_backward mentions.new.items ≡ use_mentions (use_of u.now) (mentions_backward mentions.old.items)) }
 {
     match u {
@@ -190,11 +178,7 @@ fn modifier<'a>(
 
 #[cycle(mentions)]
 #[tactic(auto, using(bqn_syntax::specs::grammar::TreeEquations::tree_equations, crate::specs::Equations::of_mentions, crate::proofs::Backward::backward_laws))]
-fn exprs<'a>(
-    alloc: Global,
-    mentions: &mut Vec<Mention<'a>>,
-    all: &'a [Expr],
-) -> Result<(), Memory>
+fn exprs<'a>(alloc: Global, mentions: &mut Vec<Mention<'a>>, all: &'a [Expr]) -> Result<(), Memory>
     ensures { OnOk result (mentions_backward mentions.new.items ≡ exprs_mentions (exprs (map expr_of all.now)) (mentions_backward mentions.old.items)) }
 {
     for e in all.iter().rev() {
@@ -205,11 +189,7 @@ fn exprs<'a>(
 
 #[cycle(mentions)]
 #[tactic(auto, using(bqn_syntax::specs::grammar::TreeEquations::tree_equations, crate::specs::Equations::of_mentions, crate::proofs::Backward::backward_laws))]
-fn parts<'a>(
-    alloc: Global,
-    mentions: &mut Vec<Mention<'a>>,
-    all: &'a [Part],
-) -> Result<(), Memory>
+fn parts<'a>(alloc: Global, mentions: &mut Vec<Mention<'a>>, all: &'a [Part]) -> Result<(), Memory>
     ensures { OnOk result (mentions_backward mentions.new.items ≡ parts_mentions (parts (map part_of all.now)) (mentions_backward mentions.old.items)) }
 {
     for x in all.iter().rev() {
@@ -235,11 +215,7 @@ fn steps_of<'a>(
 
 #[cycle(mentions)]
 #[tactic(auto, using(bqn_syntax::specs::grammar::TreeEquations::tree_equations, crate::specs::Equations::of_mentions, crate::proofs::Backward::backward_laws))]
-fn uses<'a>(
-    alloc: Global,
-    mentions: &mut Vec<Mention<'a>>,
-    all: &'a [ModUse],
-) -> Result<(), Memory>
+fn uses<'a>(alloc: Global, mentions: &mut Vec<Mention<'a>>, all: &'a [ModUse]) -> Result<(), Memory>
     ensures { OnOk result (mentions_backward mentions.new.items ≡ uses_mentions (uses (map use_of all.now)) (mentions_backward mentions.old.items)) }
 {
     for u in all.iter().rev() {

@@ -4,8 +4,8 @@ ghost use Rattle.bqn_syntax.specs.grammar.Expressions as expressions;
 ghost use Rattle.bqn_syntax.specs.grammar.Trees.{expr_of, stmt_of};
 ghost use Rattle.bqn_parse.specs.Views.{items_of};
 
-use crate::reading::expression::{expression, statement};
 use crate::item::Item;
+use crate::reading::expression::{expression, statement};
 use crate::reading::terms::units_in;
 use crate::unit::Unit;
 use bqn_base::Memory;

@@ -12,11 +12,11 @@ ghost use Rattle.bqn_parse.specs.Views.{backward, element_of, item_of, items_of,
 
 use crate::draft::{Draft, Field, boxed, part, tag_of_draft};
 use crate::growth::push;
-use crate::reading::following::{Behind, is_before_no_modifier, what_follows};
 use crate::item::{Element, Item};
+use crate::reading::following::{Behind, is_before_no_modifier, what_follows};
+use crate::reading::grouping::{Binding, Grouping, beside, bind_part, bind_settled, closed};
 use crate::reading::strand::{element_parts, element_patterns};
 use crate::unit::Unit;
-use crate::reading::grouping::{Binding, Grouping, beside, bind_part, bind_settled, closed};
 use bqn_base::Memory;
 use bqn_syntax::{Arrow, Kind, Pattern, Tag, Token};
 use std::alloc::Global;
