@@ -45,6 +45,6 @@ is_empty (x ∷ xs) = false
 abbrev pub is_balanced : (height : ℕ) → List Instr → Bool
 is_balanced height [] = false
 is_balanced height (i ∷ is) = elim (is_last i) [
-  true ↦ nat_eq height (takes i) && is_empty is
+  | true ↦ nat_eq height (takes i) && is_empty is
   | false ↦ nat_le (takes i) height && is_balanced (height - takes i + gives i) is
 ]
