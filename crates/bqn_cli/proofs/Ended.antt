@@ -1,42 +1,26 @@
 -- How runs end as answers.
 use Rattle.std.proofs.Common.{◌≡◌, ℕ, List, [], ◌++◌, Option, Some, None, Result, Ok, Err, refl, sym, subst}
 use Rattle.std.proofs.lemmas.List.{append-nil}
-use Rattle.std.specs.Prelude.{encode_utf8_all, IsSome}
-use Rattle.bqn_base.specs.declared.fault.Fault.{Fault}
-use Rattle.bqn_base.specs.declared.refusal.Refusal.{Refusal}
+use Rattle.std.specs.Prelude.{IsSome}
 use Rattle.bqn_base.specs.declared.refusal.Refusal.TheVariants.{NotYet}
 use Rattle.bqn_base.specs.declared.status.Status.{Status}
 use Rattle.bqn_base.specs.declared.status.Status.TheVariants as status
-use Rattle.bqn_base.specs.Printed.{error_line}
 use Rattle.bqn_io.specs.Writing.{Adds, AddsPart, Breaks}
 use Rattle.bqn_io.proofs.Writing.{adds-nothing, adds-then, adds-then-part, adds-then-breaks}
-use Rattle.bqn_syntax.specs.declared.token.Token.{Token}
 use Rattle.bqn_machine.specs.Tree.{Stmt}
-use Rattle.bqn_syntax.specs.declared.tree.Tree.{Tree}
-use Rattle.bqn_syntax.specs.grammar.Trees.{Stmts, tree_of}
-use Rattle.bqn_syntax.specs.grammar.Parsing.{parsed}
-use Rattle.bqn_syntax.specs.scope.Bodies.{Resolution, resolution}
-use Rattle.bqn_machine.specs.Form.{form_of}
 use Rattle.bqn_machine.specs.Evaluation.{State, Gives as Value, Faults, Spends}
 use Rattle.bqn_machine.specs.declared.code.Instr.{Instr}
+use Rattle.bqn_machine.specs.declared.raised.Raised.{Raised}
 use Rattle.bqn_machine.specs.declared.end.End.TheVariants as end
 use Rattle.bqn_machine.specs.declared.error.CompileError.TheVariants as compile
-use Rattle.bqn_code.specs.Plain.{Code}
-use Rattle.bqn_code.specs.declared.code.Code.{Code as Given}
-use Rattle.bqn_compile.specs.declared.error.CompileError.TheVariants as code
-use Rattle.bqn_compile.specs.Shown.{CompilesTo, resolution_shown}
-use Rattle.bqn_compile.specs.Translation.{translated}
 use Rattle.bqn_machine.specs.Execution.{Run, executed}
 use Rattle.bqn_machine.specs.Compiling.{Compiles}
 use Rattle.bqn_machine.specs.Running.{EndsAs}
-use Rattle.bqn_scope.specs.declared.resolving.Resolved.{Resolved}
-use Rattle.bqn_scope.specs.declared.error.ScopeError.TheVariants as scope
-use Rattle.bqn_scope.specs.Resolving.{Resolves}
 use Rattle.std.specs.declared.vec.Vec.{Vec}
 use Rattle.std.specs.declared.alloc.Global.{Global}
 use Rattle.bqn_cli.specs.declared.halted.Halted.{Halted}
 use Rattle.bqn_cli.specs.declared.halted.Halted.TheVariants as halted
-use Rattle.bqn_cli.specs.Answer.{Answer, ended, faulted, refused, tokens_answer, parsed_answer, tree_answer, scoped_answer, coded_answer, form_answer, default_steps}
+use Rattle.bqn_cli.specs.Answer.{ended, fault_line, faulted, refused, form_answer, default_steps}
 use Rattle.bqn_cli.specs.Writing.{Gives, GivesRun}
 
 -- code of a source misses no operand
@@ -66,27 +50,27 @@ module _ {K : Type 0} (written : K → Option (List ℕ)) (room faults : K → �
   pub run-memory : (run : Run) (old new : K) → EndsAs written room faults run old new end.Memory → GivesRun written room faults run old new (Err halted.Memory)
   run-memory None old new h = h
   run-memory (Some (Value u s)) old new h = h
-  run-memory (Some (Faults f s)) old new h = part-longer old new s.written (encode_utf8_all (error_line f)) h
+  run-memory (Some (Faults f s)) old new h = part-longer old new s.written (fault_line f) h
   run-memory (Some (Spends s)) old new h = h
 
   pub run-write_fault : (run : Run) (old new : K) → EndsAs written room faults run old new end.WriteFault → GivesRun written room faults run old new (Err halted.WriteFault)
   run-write_fault None old new h = h
   run-write_fault (Some (Value u s)) old new h = h
-  run-write_fault (Some (Faults f s)) old new h = breaks-longer old new s.written (encode_utf8_all (error_line f)) h
+  run-write_fault (Some (Faults f s)) old new h = breaks-longer old new s.written (fault_line f) h
   run-write_fault (Some (Spends s)) old new h = h
 
   -- the line of a fault behind what was written
-  behind : (f : Fault) (s : State) (old mid new : K) (result : Result Status Halted) → Adds written room faults old mid s.written → Gives written room faults (faulted f) mid new result → Gives written room faults (ended (Faults f s)) old new result
-  behind f s old mid new (Ok st) a h = (h.0, adds-then written room faults old mid new s.written (encode_utf8_all (error_line f)) a h.1)
+  behind : (f : Raised) (s : State) (old mid new : K) (result : Result Status Halted) → Adds written room faults old mid s.written → Gives written room faults (faulted f) mid new result → Gives written room faults (ended (Faults f s)) old new result
+  behind f s old mid new (Ok st) a h = (h.0, adds-then written room faults old mid new s.written (fault_line f) a h.1)
   behind f s old mid new (Err halted.Memory) a h =
-      subst (λ (b : List ℕ). AddsPart written room faults old new b) (append-nil (s.written ++ encode_utf8_all (error_line f))) (adds-then-part written room faults old mid new s.written (encode_utf8_all (error_line f)) [] a h)
+      subst (λ (b : List ℕ). AddsPart written room faults old new b) (append-nil (s.written ++ fault_line f)) (adds-then-part written room faults old mid new s.written (fault_line f) [] a h)
   behind f s old mid new (Err halted.WriteFault) a h =
-      subst (λ (b : List ℕ). Breaks written room faults old new b) (append-nil (s.written ++ encode_utf8_all (error_line f))) (adds-then-breaks written room faults old mid new s.written (encode_utf8_all (error_line f)) [] a h)
+      subst (λ (b : List ℕ). Breaks written room faults old new b) (append-nil (s.written ++ fault_line f)) (adds-then-breaks written room faults old mid new s.written (fault_line f) [] a h)
 
-  pub run-faulted : (run : Run) (f : Fault) (old mid new : K) (result : Result Status Halted) → EndsAs written room faults run old mid (end.Faulted f) → Gives written room faults (faulted f) mid new result → GivesRun written room faults run old new result
+  pub run-faulted : (run : Run) (f : Raised) (old mid new : K) (result : Result Status Halted) → EndsAs written room faults run old mid (end.Faulted f) → Gives written room faults (faulted f) mid new result → GivesRun written room faults run old new result
   run-faulted None f old mid new result e h = e
   run-faulted (Some (Value u s)) f old mid new result e h = absurd e
-  run-faulted (Some (Faults g s)) f old mid new result e h = behind g s old mid new result e.1 (subst (λ (x : Fault). Gives written room faults (faulted x) mid new result) e.0 h)
+  run-faulted (Some (Faults g s)) f old mid new result e h = behind g s old mid new result e.1 (subst (λ (x : Raised). Gives written room faults (faulted x) mid new result) e.0 h)
   run-faulted (Some (Spends s)) f old mid new result e h = absurd e
 
   pub source-run : (form : Option (List Stmt)) (code : Vec Instr Global) (old new : K) (result : Result Status Halted) → Compiles form (Ok code) → GivesRun written room faults (executed code.items default_steps) old new result → Gives written room faults (form_answer form) old new result
@@ -99,43 +83,6 @@ module _ {K : Type 0} (written : K → Option (List ℕ)) (room faults : K → �
 
   pub source-memory : (form : Option (List Stmt)) (old : K) → Gives written room faults (form_answer form) old old (Err halted.Memory)
   source-memory form old = record { front = []; rest = (form_answer form).out; whole = refl; adds = adds-nothing written room faults old }
-
-  pub coded-form : (tokens : List Token) (stmts : Stmts) (answer : Result Code Refusal) (given : Given) (old new : K) (result : Result Status Halted) → CompilesTo answer (Ok given) → Gives written room faults (form_answer (form_of tokens stmts)) old new result → Gives written room faults (coded_answer tokens stmts answer) old new result
-  coded-form tokens stmts answer given old new result e h = subst (λ (a : Result Code Refusal). Gives written room faults (coded_answer tokens stmts a) old new result) (sym e) h
-
-  pub coded-refusal : (tokens : List Token) (stmts : Stmts) (answer : Result Code Refusal) (r : Refusal) (old new : K) (result : Result Status Halted) → CompilesTo answer (Err (code.Refused r)) → Gives written room faults (refused r) old new result → Gives written room faults (coded_answer tokens stmts answer) old new result
-  coded-refusal tokens stmts answer r old new result e h = subst (λ (a : Result Code Refusal). Gives written room faults (coded_answer tokens stmts a) old new result) (sym e) h
-
-  pub resolved-code : (tokens : List Token) (given : Tree) (resolved : Resolved) (old new : K) (result : Result Status Halted) → Resolves (resolution [] (tree_of given)) given (Ok resolved) → Gives written room faults (coded_answer tokens (tree_of resolved.tree) (translated (resolution_shown resolved) (tree_of resolved.tree))) old new result → Gives written room faults (tree_answer tokens (tree_of given)) old new result
-  resolved-code tokens given resolved old new result r h =
-      subst (λ (a : Result Resolution Refusal). Gives written room faults (scoped_answer tokens (tree_of given) a) old new result) (sym r.1)
-      (subst (λ (t : Tree). Gives written room faults (coded_answer tokens (tree_of t) (translated (resolution_shown resolved) (tree_of t))) old new result) r.0 h)
-
-  pub resolved-refusal : (tokens : List Token) (given : Tree) (r : Refusal) (old new : K) (result : Result Status Halted) → Resolves (resolution [] (tree_of given)) given (Err (scope.Refused r)) → Gives written room faults (refused r) old new result → Gives written room faults (tree_answer tokens (tree_of given)) old new result
-  resolved-refusal tokens given r old new result e h = subst (λ (a : Result Resolution Refusal). Gives written room faults (scoped_answer tokens (tree_of given) a) old new result) (sym e) h
-
-  pub parsed-tree : (tokens : List Token) (answer : Result Stmts Refusal) (given : Tree) (old new : K) (result : Result Status Halted) → answer ≡ Ok (tree_of given) → Gives written room faults (tree_answer tokens (tree_of given)) old new result → Gives written room faults (parsed_answer tokens answer) old new result
-  parsed-tree tokens answer given old new result e h = subst (λ (a : Result Stmts Refusal). Gives written room faults (parsed_answer tokens a) old new result) (sym e) h
-
-  pub parsed-refusal : (tokens : List Token) (answer : Result Stmts Refusal) (r : Refusal) (old new : K) (result : Result Status Halted) → answer ≡ Err r → Gives written room faults (refused r) old new result → Gives written room faults (parsed_answer tokens answer) old new result
-  parsed-refusal tokens answer r old new result e h = subst (λ (a : Result Stmts Refusal). Gives written room faults (parsed_answer tokens a) old new result) (sym e) h
-
-  pub source-tokens : (answer : Result (List Token) Refusal) (given : Vec Token Global) (old new : K) (result : Result Status Halted) → answer ≡ Ok given.items → Gives written room faults (parsed_answer given.items (parsed given.items)) old new result → Gives written room faults (tokens_answer answer) old new result
-  source-tokens answer given old new result e h = subst (λ (a : Result (List Token) Refusal). Gives written room faults (tokens_answer a) old new result) (sym e) h
-
-  pub source-refusal : (answer : Result (List Token) Refusal) (r : Refusal) (old new : K) (result : Result Status Halted) → answer ≡ Err r → Gives written room faults (refused r) old new result → Gives written room faults (tokens_answer answer) old new result
-  source-refusal answer r old new result e h = subst (λ (a : Result (List Token) Refusal). Gives written room faults (tokens_answer a) old new result) (sym e) h
-
-  pub gives-nothing : (answer : Answer) (old : K) → Gives written room faults answer old old (Err halted.Memory)
-  gives-nothing answer old = record { front = []; rest = answer.out; whole = refl; adds = adds-nothing written room faults old }
-
-pub ruleset token_laws = (source-tokens, source-refusal, gives-nothing)
-
-pub ruleset code_laws = (coded-form, coded-refusal, gives-nothing)
-
-pub ruleset tree_laws = (resolved-code, resolved-refusal, gives-nothing)
-
-pub ruleset parsed_laws = (parsed-tree, parsed-refusal, gives-nothing)
 
 pub ruleset run_laws = (run-done, run-spent, run-memory, run-write_fault, run-faulted)
 

@@ -1,4 +1,5 @@
 pub mod LineBytes
 pub mod CommandWords
 pub mod Ended
+pub mod Accepted
 pub mod Commands

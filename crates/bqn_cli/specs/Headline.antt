@@ -3,8 +3,8 @@ use Rattle.std.specs.Prelude.{◌≡◌, ◌≤◌, ℕ, Bool, true, List, ◌++
 use Rattle.bqn_base.specs.declared.status.Status.{Status}
 use Rattle.bqn_base.specs.declared.status.Status.TheVariants as status
 use Rattle.bqn_io.specs.Devices.{added, Rose, Told, Kept}
-use Rattle.bqn_cli.specs.Command.{Command, Run, NoCommand}
-use Rattle.bqn_cli.specs.Answer.{Answer, Answers, source_answer, usage_answer}
+use Rattle.bqn_cli.specs.Command.{Command, Run, Check, NoCommand}
+use Rattle.bqn_cli.specs.Answer.{Answer, Answers, run_answer, check_answer, usage_answer}
 
 -- all bytes of an answer with this status were added
 pub record Whole (Answered : Answer → Type 0) (old new : Option (List ℕ)) (status : Status) : Type 0 where
@@ -43,16 +43,21 @@ Cause file_rose output_rose (Run file) status.Fault = Unit {0}
 Cause file_rose output_rose (Run file) status.Refused = Unit {0}
 Cause file_rose output_rose (Run file) status.Memory = Unit {0}
 Cause file_rose output_rose (Run file) status.ReadFault = file_rose file
+Cause file_rose output_rose (Check file) status.Done = Unit {0}
+Cause file_rose output_rose (Check file) status.Refused = Unit {0}
+Cause file_rose output_rose (Check file) status.Memory = Unit {0}
+Cause file_rose output_rose (Check file) status.ReadFault = file_rose file
 Cause file_rose output_rose NoCommand status.Usage = Unit {0}
 Cause file_rose output_rose _ _ = ⊥
 
 -- the sink has room for all bytes of the answer, and the file is kept
-abbrev pub FileFits : Told → ℕ → Type 0
-FileFits (Kept source) room = length (source_answer source).out ≤ room
-FileFits _ room = ⊥
+abbrev pub FileFits : (List ℕ → Answer) → Told → ℕ → Type 0
+FileFits answer_of (Kept source) room = length (answer_of source).out ≤ room
+FileFits answer_of _ room = ⊥
 
 abbrev pub Fits : Command → (List ℕ → Told) → ℕ → Type 0
-Fits (Run file) told room = FileFits (told file) room
+Fits (Run file) told room = FileFits run_answer (told file) room
+Fits (Check file) told room = FileFits check_answer (told file) room
 Fits NoCommand told room = length usage_answer.out ≤ room
 
 -- no device failed
@@ -64,6 +69,7 @@ IsNoFailure _ = Unit {0}
 -- only a command with a FILE touches the files
 abbrev pub LeavesFiles : {F : Type 0} → Command → F → F → Type 0
 LeavesFiles (Run file) old new = Unit {0}
+LeavesFiles (Check file) old new = Unit {0}
 LeavesFiles NoCommand old new = new ≡ old
 
 -- no command touches the input yet

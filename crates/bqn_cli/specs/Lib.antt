@@ -2,4 +2,6 @@ pub mod Texts
 pub mod Command
 pub mod Answer
 pub mod Headline
+pub mod Accepting
+pub mod Tasks
 pub mod Writing

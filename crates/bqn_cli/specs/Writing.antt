@@ -9,7 +9,7 @@ use Rattle.bqn_io.specs.Writing.{Adds, AddsPart, Breaks}
 use Rattle.bqn_machine.specs.Execution.{Run}
 use Rattle.bqn_cli.specs.declared.halted.Halted.{Halted}
 use Rattle.bqn_cli.specs.declared.halted.Halted.TheVariants.{Memory, WriteFault}
-use Rattle.bqn_cli.specs.Answer.{Answer, ended, refused, source_answer}
+use Rattle.bqn_cli.specs.Answer.{Answer, ended, refused}
 
 -- the status that is answered
 abbrev pub status_of : Result Status Halted → Status
@@ -18,9 +18,9 @@ status_of (Err Memory) = status.Memory
 status_of (Err WriteFault) = status.WriteFault
 
 -- the answer to what a fetch gave
-abbrev pub fetched_answer : Fetched → Answer
-fetched_answer (Whole source) = source_answer source
-fetched_answer Longer = refused TooLong
+abbrev pub fetched_answer : (List ℕ → Answer) → Fetched → Answer
+fetched_answer answer_of (Whole source) = answer_of source
+fetched_answer answer_of Longer = refused TooLong
 
 module _ {K : Type 0} (written : K → Option (List ℕ)) (room faults : K → ℕ) where
   -- an answer is given: all its bytes, and its status; want of memory and a failed put leave a front of its bytes

@@ -4,14 +4,14 @@ ghost use Rattle.std.specs.Prelude.{◌≡◌, ◌++◌, List, ℕ, IfOk, OnOk, 
 ghost use Rattle.std.specs.Char.{is_ascii};
 ghost use Rattle.std.specs.List.{list_all};
 ghost use Rattle.std.specs.String.{string_bytes};
-ghost use Rattle.bqn_base.specs.Printed.{fault_message, fault_name, refusal_text, shown_message};
+ghost use Rattle.bqn_base.specs.Printed.{error_place, fault_message, fault_name, refusal_text, shown_message};
 ghost use Rattle.bqn_base.specs.Printed.{error_line as error_line_of};
 ghost use Rattle.bqn_base.specs.Printed.{refusal_line as refusal_line_of};
 ghost use Rattle.bqn_base.specs.Printed.{usage_line as usage_line_of};
 ghost use Rattle.bqn_cli.specs.Texts.{where_text};
 
+use crate::places::{push_number, push_place};
 use bqn_base::{Fault, Memory, Place, Refusal};
-use itoa::Buffer;
 use std::alloc::{AllocError, Global};
 
 const USAGE: &str =
@@ -25,11 +25,16 @@ pub(crate) fn usage_line() -> &'static [u8]
     USAGE.as_bytes()
 }
 
-/// The line of an uncaught fault: its name, and the message of an `Assert` that has one.
-pub(crate) fn error_line(alloc: Global, fault: &Fault) -> Result<Vec<u8>, Memory>
-    ensures { IfOk result (λ bytes. bytes.items ≡ encode_utf8_all (error_line_of fault.now)) }
+/// The line of an uncaught fault: its name, its place where there is one, and the message of an
+/// `Assert` that has one.
+pub(crate) fn error_line(
+    alloc: Global,
+    fault: &Fault,
+    place: Option<Place>,
+) -> Result<Vec<u8>, Memory>
+    ensures { IfOk result (λ bytes. bytes.items ≡ encode_utf8_all (error_line_of fault.now place)) }
 {
-    match error_text(alloc, fault) {
+    match error_text(alloc, fault, place) {
         Ok(text) => Ok(text.into_bytes()),
         Err(_) => Err(Memory),
     }
@@ -46,11 +51,12 @@ pub(crate) fn refusal_line(alloc: Global, refusal: &Refusal) -> Result<Vec<u8>, 
 }
 
 #[tactic(auto, using(crate::proofs::LineBytes::error_laws))]
-fn error_text(alloc: Global, fault: &Fault) -> Result<String, AllocError>
-    ensures { IfOk result (λ text. string_bytes text ≡ encode_utf8_all (error_line_of fault.now)) }
+fn error_text(alloc: Global, fault: &Fault, place: Option<Place>) -> Result<String, AllocError>
+    ensures { IfOk result (λ text. string_bytes text ≡ encode_utf8_all (error_line_of fault.now place)) }
 {
     let mut text = String::from_str(alloc, "Error: ")?;
     text.push_str(name(fault))?;
+    push_error_place(&mut text, place)?;
     push_message(&mut text, message(fault))?;
     text.push('\n')?;
     Ok(text)
@@ -168,18 +174,22 @@ fn push_where(text: &mut String, place: Where) -> Result<(), AllocError>
         }
         Where::Place(place) => {
             text.push(' ')?;
-            push_number(text, place.line)?;
-            text.push(':')?;
-            push_number(text, place.column)
+            push_place(text, place)
         }
     }
 }
 
-#[tactic(auto, using(crate::proofs::LineBytes::number_laws))]
-fn push_number(text: &mut String, number: u32) -> Result<(), AllocError>
-    ensures { OnOk result (string_bytes text.new ≡ string_bytes text.old ++ encode_utf8_all (decimal number)) }
+#[tactic(auto, using(crate::proofs::LineBytes::where_laws))]
+fn push_error_place(text: &mut String, place: Option<Place>) -> Result<(), AllocError>
+    ensures { OnOk result (string_bytes text.new ≡ string_bytes text.old ++ encode_utf8_all (error_place place)) }
 {
-    text.push_str(Buffer::new().format(number))
+    match place {
+        None => Ok(()),
+        Some(place) => {
+            text.push_str(" at ")?;
+            push_place(text, place)
+        }
+    }
 }
 
 #[cfg(test)]
@@ -192,12 +202,29 @@ mod tests {
     fn lines_of_faults(rt: HostRuntime) -> Result<(), Fail> {
         let silent = Text::new(rt.alloc(), &[])?;
         let message = Text::new(rt.alloc(), &['n', '≠', '1'])?;
-        for (fault, line) in [
-            (Fault::DivideByZero, "Error: DivideByZero\n"),
-            (Fault::Assert(silent), "Error: Assert\n"),
-            (Fault::Assert(message), "Error: Assert: n≠1\n"),
+        let place = Place {
+            line: 1,
+            column: 26,
+        };
+        for (fault, place, line) in [
+            (Fault::DivideByZero, None, "Error: DivideByZero\n"),
+            (
+                Fault::DivideByZero,
+                Some(place),
+                "Error: DivideByZero at 1:26\n",
+            ),
+            (
+                Fault::Assert(silent),
+                Some(place),
+                "Error: Assert at 1:26\n",
+            ),
+            (
+                Fault::Assert(message),
+                Some(place),
+                "Error: Assert at 1:26: n≠1\n",
+            ),
         ] {
-            let bytes = error_line(rt.alloc(), &fault)?;
+            let bytes = error_line(rt.alloc(), &fault, place)?;
             assert_eq!(rt; bytes.as_slice(), line.as_bytes(), "{line}");
         }
         Ok(())

@@ -1,9 +1,11 @@
-//! The program: a script in a file, run from the command line.
+//! The program: a script in a file, run or checked from the command line.
 #![tactic(auto)]
 
 mod command;
+mod front;
 mod halted;
 mod lines;
+mod places;
 mod script;
 #[cfg(test)]
 mod tests;

@@ -1,26 +1,20 @@
-//! A source as it is run: the bytes that are written, and the status.
+//! A source as it is run or checked: the bytes that are written, and the status.
 
-ghost use Rattle.std.specs.Prelude.{◌≡◌, ◌≤◌, ◌^◌, IsSome, MatchResult, encode_utf8_all, length};
+ghost use Rattle.std.specs.Prelude.{◌≡◌, IsSome, MatchResult};
 ghost use Rattle.bqn_io.specs.Writing.{Adds, Breaks};
 ghost use Rattle.bqn_machine.specs.Form.{form_of};
-ghost use Rattle.bqn_syntax.specs.grammar.Parsing.{parsed};
 ghost use Rattle.bqn_syntax.specs.grammar.Trees.{tree_of};
 ghost use Rattle.bqn_machine.specs.Execution.{executed};
-ghost use Rattle.bqn_compile.specs.Shown.{resolution_shown};
-ghost use Rattle.bqn_compile.specs.Translation.{translated};
-ghost use Rattle.bqn_cli.specs.Answer.{coded_answer, default_steps, faulted, form_answer, parsed_answer, refused, source_answer, tree_answer};
+ghost use Rattle.bqn_cli.specs.Answer.{check_answer, default_steps, faulted, form_answer, refused, run_answer};
 ghost use Rattle.bqn_cli.specs.Writing.{Gives, GivesRun};
 
+use crate::front::{SourceError, accepted};
 use crate::halted::Halted;
 use crate::lines::{error_line, refusal_line};
-use bqn_base::{Fault, Refusal, Status};
-use bqn_compile::CompileError;
+use bqn_base::{Refusal, Status};
 use bqn_io::{Failed, Sink};
-use bqn_machine::{End, Instr, run_code};
-use bqn_parse::{ParseError, parse};
-use bqn_scope::{Names, Resolved, ScopeError, resolve};
+use bqn_machine::{End, Instr, Raised, run_code};
 use bqn_syntax::{Token, Tree};
-use bqn_token::{TokenError, tokens};
 use std::alloc::Global;
 
 /// The steps that a run has where none are asked for.
@@ -51,10 +45,10 @@ pub(crate) fn refuse<K: Sink>(
 }
 
 /// Writes the line of an uncaught fault.
-fn report<K: Sink>(alloc: Global, fault: &Fault, out: &mut K) -> Result<Status, Halted>
-    ensures { Gives K.written K.room K.faults (faulted fault.now) out.old out.new result }
+fn report<K: Sink>(alloc: Global, raised: &Raised, out: &mut K) -> Result<Status, Halted>
+    ensures { Gives K.written K.room K.faults (faulted raised.now) out.old out.new result }
 {
-    let Ok(line) = error_line(alloc, fault) else {
+    let Ok(line) = error_line(alloc, &raised.fault, Some(raised.place)) else {
         return Err(Halted::Memory);
     };
     match put_line(&line, out) {
@@ -74,11 +68,11 @@ fn run<K: Sink>(alloc: Global, code: &[Instr], out: &mut K) -> Result<Status, Ha
         End::Spent => Ok(Status::Spent),
         End::Memory => Err(Halted::Memory),
         End::WriteFault => Err(Halted::WriteFault),
-        End::Faulted(fault) => report(alloc, &fault, out),
+        End::Faulted(raised) => report(alloc, &raised, out),
     }
 }
 
-/// Compiles and runs the tree of a token list, whose names are resolved.
+/// Compiles and runs the tree of the tokens of an accepted source.
 #[tactic(auto, using(crate::proofs::Ended::source_laws))]
 fn run_form<K: Sink>(
     alloc: Global,
@@ -95,65 +89,34 @@ fn run_form<K: Sink>(
     }
 }
 
-/// Refuses a tree for one constant, name or block too many, or runs it.
-#[tactic(auto, using(crate::proofs::Ended::code_laws))]
-fn run_resolved<K: Sink>(
-    alloc: Global,
-    tokens: &[Token],
-    resolved: &Resolved,
-    out: &mut K,
-) -> Result<Status, Halted>
-    ensures { Gives K.written K.room K.faults (coded_answer tokens.now (tree_of resolved.now.tree) (translated (resolution_shown resolved.now) (tree_of resolved.now.tree))) out.old out.new result }
-{
-    match bqn_compile::compile(alloc, resolved) {
-        Ok(_) => run_form(alloc, tokens, &resolved.tree, out),
-        Err(CompileError::Refused(refusal)) => refuse(alloc, refusal, out),
-        Err(CompileError::Memory) => Err(Halted::Memory),
-    }
-}
-
-/// Refuses the tree of a token list for a name in it, or runs it.
-#[tactic(auto, using(crate::proofs::Ended::tree_laws))]
-fn run_tree<K: Sink>(
-    alloc: Global,
-    tokens: &[Token],
-    tree: Tree,
-    out: &mut K,
-) -> Result<Status, Halted>
-    ensures { Gives K.written K.room K.faults (tree_answer tokens.now (tree_of tree)) out.old out.new result }
-{
-    match resolve(alloc, tree, &Names::new(alloc)) {
-        Ok(resolved) => run_resolved(alloc, tokens, &resolved, out),
-        Err(ScopeError::Refused(refusal)) => refuse(alloc, refusal, out),
-        Err(ScopeError::Memory) => Err(Halted::Memory),
-    }
-}
-
-/// Refuses the tokens of a source, or runs them.
-#[tactic(auto, using(crate::proofs::Ended::parsed_laws))]
-fn run_tokens<K: Sink>(alloc: Global, tokens: &[Token], out: &mut K) -> Result<Status, Halted>
-    requires { length tokens.now ≤ 2 ^ 28 }
-    ensures { Gives K.written K.room K.faults (parsed_answer tokens.now (parsed tokens.now)) out.old out.new result }
-{
-    match parse(alloc, tokens) {
-        Ok(tree) => run_tree(alloc, tokens, tree, out),
-        Err(ParseError::Refused(refusal)) => refuse(alloc, refusal, out),
-        Err(ParseError::Memory) => Err(Halted::Memory),
-    }
-}
-
 /// Refuses a source, or runs it.
-#[tactic(auto, using(crate::proofs::Ended::token_laws))]
+#[tactic(auto, using(crate::proofs::Accepted::answer_laws))]
 pub(crate) fn run_source<K: Sink>(
     alloc: Global,
     source: &[u8],
     out: &mut K,
 ) -> Result<Status, Halted>
-    ensures { Gives K.written K.room K.faults (source_answer source.now) out.old out.new result }
+    ensures { Gives K.written K.room K.faults (run_answer source.now) out.old out.new result }
 {
-    match tokens(alloc, source) {
-        Ok(tokens) => run_tokens(alloc, &tokens, out),
-        Err(TokenError::Refused(refusal)) => refuse(alloc, refusal, out),
-        Err(TokenError::Memory) => Err(Halted::Memory),
+    match accepted(alloc, source) {
+        Ok(source) => run_form(alloc, &source.tokens, &source.tree, out),
+        Err(SourceError::Refused(refusal)) => refuse(alloc, refusal, out),
+        Err(SourceError::Memory) => Err(Halted::Memory),
+    }
+}
+
+/// Refuses a source, or writes nothing.
+#[tactic(auto, using(crate::proofs::Accepted::answer_laws))]
+pub(crate) fn check_source<K: Sink>(
+    alloc: Global,
+    source: &[u8],
+    out: &mut K,
+) -> Result<Status, Halted>
+    ensures { Gives K.written K.room K.faults (check_answer source.now) out.old out.new result }
+{
+    match accepted(alloc, source) {
+        Ok(_) => Ok(Status::Done),
+        Err(SourceError::Refused(refusal)) => refuse(alloc, refusal, out),
+        Err(SourceError::Memory) => Err(Halted::Memory),
     }
 }

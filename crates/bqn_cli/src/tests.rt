@@ -34,11 +34,19 @@ fn ran(
     Ok((status, output.written().to_vec(alloc)?))
 }
 
-/// Whether the file `f` with this source is answered by this refusal.
+/// Whether the file `f` with this source is accepted.
+fn is_accepted(rt: &HostRuntime, source: &str) -> Result<bool, Fail> {
+    let (status, bytes) = ran(rt, "check f", source.as_bytes(), &[])?;
+    Ok(bytes.is_empty() && status == Status::Done)
+}
+
+/// Whether both commands answer this refusal where the file `f` has this source.
 fn is_refused(rt: &HostRuntime, source: &str, refusal: &str) -> Result<bool, Fail> {
     let line = format!(in rt.alloc(); "Refused: {refusal}\n")?;
-    let (_, bytes) = ran(rt, "run f", source.as_bytes(), &[])?;
-    Ok(bytes.as_slice() == line.as_bytes())
+    let (_, by_run) = ran(rt, "run f", source.as_bytes(), &[])?;
+    let (status, by_check) = ran(rt, "check f", source.as_bytes(), &[])?;
+    let is_line = by_run.as_slice() == line.as_bytes() && by_check.as_slice() == line.as_bytes();
+    Ok(is_line && status == Status::Refused)
 }
 
 #[test]
@@ -49,11 +57,11 @@ fn scripts(rt: HostRuntime) -> Result<(), Fail> {
         ("•Show 2+3", "5\n", Status::Done),
         (
             "•Show 9223372036854775807+1",
-            "Error: Overflow\n",
+            "Error: Overflow at 1:26\n",
             Status::Fault,
         ),
         ("•Show 10-2-3", "11\n", Status::Done),
-        ("1 •Show 2", "Error: Domain\n", Status::Fault),
+        ("1 •Show 2", "Error: Domain at 1:3\n", Status::Fault),
         (
             "•Show 1,•Show ×-7\n⋄•Show\t¯2×3,,",
             "1\n¯1\n¯6\n",
@@ -61,7 +69,7 @@ fn scripts(rt: HostRuntime) -> Result<(), Fail> {
         ),
         (
             "•Show ¯9223372036854775808⋄-¯9223372036854775808",
-            "¯9223372036854775808\nError: Overflow\n",
+            "¯9223372036854775808\nError: Overflow at 1:28\n",
             Status::Fault,
         ),
         ("•Show ¯0\n•SHOW ×0 # zero\r\n", "0\n0\n", Status::Done),
@@ -72,7 +80,7 @@ fn scripts(rt: HostRuntime) -> Result<(), Fail> {
         ("•Show ((1))-(2-(3))", "2\n", Status::Done),
         (
             "a←•Show 1⋄•Show 9223372036854775807+a⋄•Show a",
-            "1\nError: Overflow\n",
+            "1\nError: Overflow at 1:36\n",
             Status::Fault,
         ),
         ("•Show a⋄a←1", "Refused: Early 1:7\n", Status::Refused),
@@ -150,9 +158,11 @@ fn one_block_too_many(rt: HostRuntime) -> Result<(), Fail> {
     for _ in 0..65_535 {
         source.push_str("{0}\n")?;
     }
-    assert!(rt; is_refused(&rt, &source, "NotYet")?);
+    assert!(rt; is_accepted(&rt, &source)?);
     source.push_str("{0}\n")?;
-    assert!(rt; is_refused(&rt, &source, "TooMany 65536:1")?);
+    let (status, bytes) = ran(&rt, "check f", source.as_bytes(), &[])?;
+    assert_eq!(rt; bytes.as_slice(), b"Refused: TooMany 65536:1\n".as_slice());
+    assert_eq!(rt; status, Status::Refused);
     Ok(())
 }
 
@@ -220,7 +230,13 @@ fn command_lines(rt: HostRuntime) -> Result<(), Fail> {
         ("run --steps", Status::Usage),
         ("run --steps 5 f", Status::Usage),
         ("run f a", Status::Usage),
-        ("check f", Status::Usage),
+        ("check f", Status::Done),
+        ("check gone", Status::ReadFault),
+        ("check --steps", Status::ReadFault),
+        ("check", Status::Usage),
+        ("check f a", Status::Usage),
+        ("check --steps 5 f", Status::Usage),
+        ("Check f", Status::Usage),
         ("Run f", Status::Usage),
     ] {
         let (ended, bytes) = ran(&rt, line, b"", &[])?;
@@ -243,6 +259,7 @@ fn failing_sinks(rt: HostRuntime) -> Result<(), Fail> {
         ("run f", "÷", 1, ""),
         ("run f", "$", 1, ""),
         ("", "", 1, ""),
+        ("check f", "$", 1, ""),
     ] {
         let (status, bytes) = ran(&rt, line, source.as_bytes(), &[failing])?;
         assert_eq!(rt; status, Status::WriteFault, "{source}");

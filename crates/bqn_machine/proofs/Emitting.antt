@@ -2,8 +2,9 @@
 use Rattle.std.proofs.Common.{◌≡◌, ℕ, List, [], ◌∷◌, ◌++◌, Option, Some, None, length, map, refl, sym, ap, ◌∙◌, append_assoc}
 use Rattle.std.proofs.lemmas.List.{append-nil, map-append}
 use Rattle.std.specs.Option.{option_map, option_and_then}
+use Rattle.bqn_base.specs.declared.place.Place.{Place}
 use Rattle.bqn_base.specs.declared.role.Role.TheVariants as role
-use Rattle.bqn_machine.specs.declared.function.Function.{Function}
+use Rattle.bqn_machine.specs.declared.function.Callee.{Callee}
 use Rattle.bqn_syntax.specs.declared.token.Kind.{Kind}
 use Rattle.bqn_syntax.specs.declared.token.Kind.TheVariants as kind
 use Rattle.bqn_syntax.specs.declared.tree.Arrow.TheVariants as arrow
@@ -28,24 +29,24 @@ with_part code part = option_map (λ p. code ++ part_code p) part
 abbrev pub with_expr : List Instr → Option Expr → Option (List Instr)
 with_expr code e = option_map (λ x. code ++ expr_code x) e
 
-leaf-word : (code : List Instr) (number : Option ℕ) → leaf_emitted code (option_map (λ number. Load number) number) ≡ with_part code (option_map (λ number. Name number) number)
-leaf-word code None = refl
-leaf-word code (Some number) = refl
+leaf-word : (code : List Instr) (place : Place) (number : Option ℕ) → leaf_emitted code (option_map (λ number. Load number place) number) ≡ with_part code (option_map (λ number. Name number place) number)
+leaf-word code place None = refl
+leaf-word code place (Some number) = refl
 
-leaf-form : (names : List (List ℕ)) (code : List Instr) (k : Kind) → leaf_emitted code (leaf_instr names k) ≡ with_part code (leaf_in names k)
-leaf-form names code (kind.Number z) = refl
-leaf-form names code (kind.Word name role.Subject) = leaf-word code (number_of names name)
-leaf-form names code _ = refl
+leaf-form : (names : List (List ℕ)) (code : List Instr) (place : Place) (k : Kind) → leaf_emitted code (leaf_instr names place k) ≡ with_part code (leaf_in names place k)
+leaf-form names code place (kind.Number z) = refl
+leaf-form names code place (kind.Word name role.Subject) = leaf-word code place (number_of names name)
+leaf-form names code place _ = refl
 
 paren-form : (code : List Instr) (e : Option Expr) → with_expr code e ≡ with_part code (option_map (λ e. Paren e) e)
 paren-form code None = refl
 paren-form code (Some e) = refl
 
-call1-form : (names : List (List ℕ)) (code : List Instr) (f : Option Function) (e : Expr) → call_emitted names (code ++ expr_code e) f none ≡ with_expr code (call_in names f e none)
+call1-form : (names : List (List ℕ)) (code : List Instr) (f : Option Callee) (e : Expr) → call_emitted names (code ++ expr_code e) f none ≡ with_expr code (call_in names f e none)
 call1-form names code None e = refl
 call1-form names code (Some f) e = ap (λ (is : List Instr). Some is) (append_assoc code (expr_code e) (Call1 f ∷ []))
 
-call2-form : (names : List (List ℕ)) (code : List Instr) (f : Option Function) (e : Expr) (left : plain.Part)
+call2-form : (names : List (List ℕ)) (code : List Instr) (f : Option Callee) (e : Expr) (left : plain.Part)
     → part_emitted names (code ++ expr_code e) left ≡ with_part (code ++ expr_code e) (part_in names left)
     → call_emitted names (code ++ expr_code e) f (some left) ≡ with_expr code (call_in names f e (some left))
 call2-form names code None e left h = refl
@@ -59,7 +60,7 @@ call2-form names code (Some f) e left h = ap (λ (o : Option (List Instr)). opti
 
 mutual
   pub part-form : (names : List (List ℕ)) (code : List Instr) (part : plain.Part) → part_emitted names code part ≡ with_part code (part_in names part)
-  part-form names code (Leaf t) = leaf-form names code t.kind
+  part-form names code (Leaf t) = leaf-form names code t.place t.kind
   part-form names code (plain.Paren e) = expr-form names code e ∙ paren-form code (expr_in names e)
   part-form names code _ = refl
 
@@ -83,7 +84,7 @@ mutual
   step-form names code e (Apply function left) = call-form names code (function_of function) e left
   step-form names code e _ = refl
 
-  call-form : (names : List (List ℕ)) (code : List Instr) (f : Option Function) (e : Expr) (left : plain.MaybePart) → call_emitted names (code ++ expr_code e) f left ≡ with_expr code (call_in names f e left)
+  call-form : (names : List (List ℕ)) (code : List Instr) (f : Option Callee) (e : Expr) (left : plain.MaybePart) → call_emitted names (code ++ expr_code e) f left ≡ with_expr code (call_in names f e left)
   call-form names code f e none = call1-form names code f e
   call-form names code f e (some left) = call2-form names code f e left (part-form names (code ++ expr_code e) left)
 

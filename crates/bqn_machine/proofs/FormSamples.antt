@@ -11,7 +11,7 @@ use Rattle.bqn_base.specs.declared.fault.Fault.TheVariants.{Overflow, Domain}
 use Rattle.bqn_syntax.specs.text.Tokens.{tokens_of_source}
 use Rattle.bqn_syntax.specs.grammar.Parsing.{parsed}
 use Rattle.bqn_machine.specs.Form.{form_of}
-use Rattle.bqn_machine.specs.Evaluation.{Res, Gives, Faults, Spends, State, evaluated}
+use Rattle.bqn_machine.specs.Evaluation.{Res, Gives, Faults, Spends, State, raised, evaluated}
 
 -- the bytes of a source, its meaning with so many steps, and the written text
 abbrev source : List ℕ → List ℕ
@@ -36,17 +36,22 @@ right_to_left : seen (codes "•Show 10-2-3") 7 ≡ Some (Gives tt (state (codes
 unfolding chars is_utf8 encode digits
 right_to_left = refl
 
-overflow_after_text : seen (codes "•Show ¯5 ⋄ 9223372036854775807+1 ⋄ •Show 1") 1 ≡ Some (Faults Overflow (state (codes "¯5\n") 0))
+overflow_after_text : seen (codes "•Show ¯5 ⋄ 9223372036854775807+1 ⋄ •Show 1") 1 ≡ Some (Faults (raised (record { line = 1; column = 31 }) Overflow) (state (codes "¯5\n") 0))
 unfolding chars is_utf8 encode digits
 overflow_after_text = refl
 
-show_with_left : seen (codes "1 •Show •Show -×-7,") 1 ≡ Some (Faults Domain (state (codes "1\n") 0))
+show_with_left : seen (codes "1 •Show •Show -×-7,") 1 ≡ Some (Faults (raised (record { line = 1; column = 3 }) Domain) (state (codes "1\n") 0))
 unfolding chars is_utf8 encode digits
 show_with_left = refl
 
 no_step_left : seen (codes "•Show 1") 0 ≡ Some (Spends (state [] 0))
 unfolding chars is_utf8 encode
 no_step_left = refl
+
+-- the place of a fault is that of the function that is called
+overflow_at_the_call : seen (codes "a←1\n•Show (9223372036854775807 - a)+a+a") 1 ≡ Some (Faults (raised (record { line = 2; column = 32 }) Overflow) (record { written = []; left = 0; vars = pos 1 ∷ [] }))
+unfolding chars is_utf8 encode digits
+overflow_at_the_call = refl
 
 -- what is not of the form
 not_yet_bracket : seen (codes "•Show (") 1 ≡ None

@@ -2,11 +2,12 @@
 use Rattle.std.proofs.Common.{◌≡◌, ◌≢◌, ◌-◌, ℕ, zero, suc, ℤ, List, [], ◌∷◌, ◌++◌, slice_get, Option, Some, None, Result, Ok, Err, refl, sym, ap, ◌∙◌, subst, append_assoc, arith, rules, ◌<◌, ◌+◌, drop, get_or, length, drop-cons, add-one}
 use Rattle.std.specs.Prelude.{IsSome}
 use Rattle.std.proofs.lemmas.List.{append-nil}
-use Rattle.bqn_base.specs.declared.fault.Fault.{Fault}
 use Rattle.bqn_base.specs.declared.fault.Fault.TheVariants.{Undefined}
+use Rattle.bqn_base.specs.declared.place.Place.{Place}
 use Rattle.bqn_io.specs.Writing.{Adds, AddsPart, Breaks}
 use Rattle.bqn_io.proofs.Writing.{adds-nothing, adds-then, adds-then-part, adds-then-breaks}
-use Rattle.bqn_machine.specs.Evaluation.{State, Res, Gives, Faults, Spends, wrote, answered, answer_of, output_of, known_value}
+use Rattle.bqn_machine.specs.Evaluation.{State, Res, Gives, Faults, Spends, wrote, raised, answered, answer_at, output_of, known_value}
+use Rattle.bqn_machine.specs.declared.raised.Raised.{Raised}
 use Rattle.bqn_machine.specs.declared.code.Instr.{Instr}
 use Rattle.bqn_machine.specs.declared.code.Instr.TheVariants.{Const, Load, Define, Call1, Call2, Pop}
 use Rattle.bqn_machine.specs.declared.end.End.{End}
@@ -15,7 +16,7 @@ use Rattle.bqn_machine.specs.Execution.{Run, on_answer, exec, executed}
 use Rattle.bqn_machine.specs.Running.{Act, pushed, loaded, act, vars_behind, written_by, Acts, Ends, EndsAs}
 
 -- how a run goes on after an answer
-abbrev after_answer : Result (List ℤ) Fault → List Instr → State → Run
+abbrev after_answer : Result (List ℤ) Raised → List Instr → State → Run
 after_answer (Ok stack) code t = exec code stack t
 after_answer (Err f) code t = Some (Faults f t)
 
@@ -27,13 +28,13 @@ after_act (Some a) code s = after_answer a.answer code (wrote s a.output)
 wrote-nil : (s : State) → s ≡ wrote s []
 wrote-nil s = ap (λ (b : List ℕ). record s { written = b }) (sym (append-nil s.written))
 
-after_answer-pushed : (r : Result ℤ Fault) (stack : List ℤ) (code : List Instr) (t : State) → on_answer (answered r t) (λ y u. exec code (y ∷ stack) u) ≡ after_answer (pushed stack r) code t
+after_answer-pushed : (r : Result ℤ Raised) (stack : List ℤ) (code : List Instr) (t : State) → on_answer (answered r t) (λ y u. exec code (y ∷ stack) u) ≡ after_answer (pushed stack r) code t
 after_answer-pushed (Ok y) stack code t = refl
 after_answer-pushed (Err f) stack code t = refl
 
-after_answer-loaded : (o : Option ℤ) (stack : List ℤ) (code : List Instr) (s : State) → on_answer (known_value o s) (λ y t. exec code (y ∷ stack) t) ≡ after_answer (loaded stack o) code (wrote s [])
-after_answer-loaded None stack code s = ap (λ (t : State). Some (Faults Undefined t)) (wrote-nil s)
-after_answer-loaded (Some v) stack code s = ap (λ (t : State). exec code (v ∷ stack) t) (wrote-nil s)
+after_answer-loaded : (place : Place) (o : Option ℤ) (stack : List ℤ) (code : List Instr) (s : State) → on_answer (known_value place o s) (λ y t. exec code (y ∷ stack) t) ≡ after_answer (loaded place stack o) code (wrote s [])
+after_answer-loaded place None stack code s = ap (λ (t : State). Some (Faults (raised place Undefined) t)) (wrote-nil s)
+after_answer-loaded place (Some v) stack code s = ap (λ (t : State). exec code (v ∷ stack) t) (wrote-nil s)
 
 -- a state with other values of the names
 abbrev with_vars : State → List ℤ → State
@@ -41,14 +42,14 @@ with_vars s vars = record s { vars = vars }
 
 exec-act : (i : Instr) (code : List Instr) (stack : List ℤ) (s : State) → exec (i ∷ code) stack s ≡ after_act (act i stack s.vars) code (with_vars s (vars_behind i stack s.vars))
 exec-act (Const x) code stack s = ap (λ (t : State). exec code (x ∷ stack) t) (wrote-nil s)
-exec-act (Load number) code stack s = after_answer-loaded (slice_get s.vars number) stack code s
+exec-act (Load number place) code stack s = after_answer-loaded place (slice_get s.vars number) stack code s
 exec-act Define code [] s = refl
 exec-act Define code (x ∷ stack) s = ap (λ (t : State). exec code (x ∷ stack) t) (wrote-nil (with_vars s (s.vars ++ x ∷ [])))
 exec-act (Call1 f) code [] s = refl
-exec-act (Call1 f) code (x ∷ stack) s = after_answer-pushed (answer_of f None x) stack code (wrote s (output_of f None x))
+exec-act (Call1 f) code (x ∷ stack) s = after_answer-pushed (answer_at f None x) stack code (wrote s (output_of f.function None x))
 exec-act (Call2 f) code [] s = refl
 exec-act (Call2 f) code (w ∷ []) s = refl
-exec-act (Call2 f) code (w ∷ x ∷ stack) s = after_answer-pushed (answer_of f (Some w) x) stack code (wrote s (output_of f (Some w) x))
+exec-act (Call2 f) code (w ∷ x ∷ stack) s = after_answer-pushed (answer_at f (Some w) x) stack code (wrote s (output_of f.function (Some w) x))
 exec-act Pop code [] s = refl
 exec-act Pop code (x ∷ stack) s = ap (λ (t : State). exec code stack t) (wrote-nil s)
 
@@ -63,7 +64,7 @@ front-same bytes = record { rest = []; whole = sym (append-nil bytes) }
 front-of : (x y bytes : List ℕ) → Front (x ++ y) bytes → Front x bytes
 front-of x y bytes f = record { rest = y ++ f.rest; whole = f.whole ∙ append_assoc x y f.rest }
 
-written-same : (r : Res (Unit {0})) (f : Fault) (t : State) → Some (Faults f t) ≡ Some r → t.written ≡ written_by r
+written-same : (r : Res (Unit {0})) (f : Raised) (t : State) → Some (Faults f t) ≡ Some r → t.written ≡ written_by r
 written-same r f t e = ap (λ (o : Run). elim o [ None ↦ t.written | Some q ↦ written_by q ]) e
 
 given-same : (r : Res (Unit {0})) (t : State) → Some (Gives tt t) ≡ Some r → t.written ≡ written_by r
@@ -73,7 +74,7 @@ given-same r t e = ap (λ (o : Run). elim o [ None ↦ t.written | Some q ↦ wr
 abbrev Grows : List Instr → Type 0
 Grows code = (stack : List ℤ) (s : State) (r : Res (Unit {0})) → exec code stack s ≡ Some r → Front s.written (written_by r)
 
-grows-answer : (code : List Instr) → Grows code → (answer : Result (List ℤ) Fault) (t : State) (r : Res (Unit {0})) → after_answer answer code t ≡ Some r → Front t.written (written_by r)
+grows-answer : (code : List Instr) → Grows code → (answer : Result (List ℤ) Raised) (t : State) (r : Res (Unit {0})) → after_answer answer code t ≡ Some r → Front t.written (written_by r)
 grows-answer code ih (Ok stack) t r e = ih stack t r e
 grows-answer code ih (Err f) t r e = subst (λ (b : List ℕ). Front t.written b) (written-same r f t e) (front-same t.written)
 
@@ -120,7 +121,7 @@ module _ {K : Type 0} (written : K → Option (List ℕ)) (room faults : K → �
   step-after whole None code stack vars left old mid new front w a h = absurd h
   step-after whole (Some act) code stack vars left old mid new front w a h = record {
     front = front ++ act.output;
-    whole_is = w ∙ ap (λ (r : Result (List ℤ) Fault). after_answer r code (record { written = front ++ act.output; left = left; vars = vars })) h.0;
+    whole_is = w ∙ ap (λ (r : Result (List ℤ) Raised). after_answer r code (record { written = front ++ act.output; left = left; vars = vars })) h.0;
     adds = adds-then written room faults old mid new front act.output a h.1;
   }
 
@@ -147,7 +148,7 @@ module _ {K : Type 0} (written : K → Option (List ℕ)) (room faults : K → �
       → Some r ≡ after_act (Some a) code (record { written = front; left = left; vars = vars }) → Adds written room faults old mid front → Acts written room faults (Some a) stack mid new (Err e)
       → EndsAs written room faults (Some r) old new e
   halt-after r a code stack vars left old mid new front (end.Faulted f) w adds h =
-      let faults_so : Some r ≡ Some (Faults f (record { written = front ++ a.output; left = left; vars = vars })) = w ∙ ap (λ (x : Result (List ℤ) Fault). after_answer x code (record { written = front ++ a.output; left = left; vars = vars })) h.0 in
+      let faults_so : Some r ≡ Some (Faults f (record { written = front ++ a.output; left = left; vars = vars })) = w ∙ ap (λ (x : Result (List ℤ) Raised). after_answer x code (record { written = front ++ a.output; left = left; vars = vars })) h.0 in
       subst (λ (o : Run). EndsAs written room faults o old new (end.Faulted f)) (sym faults_so) (refl, adds-then written room faults old mid new front a.output adds h.1)
   halt-after r a code stack vars left old mid new front end.Memory w adds h =
       let f : Front (front ++ a.output) (written_by r) = front-after a code (record { written = front; left = left; vars = vars }) r (sym w) in

@@ -20,7 +20,7 @@ on_answer-then_do (Spends s) m go = refl
 mutual
   exec-part_code : (part : Part) (code : List Instr) (stack : List ℤ) (s : State) → exec (part_code part ++ code) stack s ≡ on_answer (eval_part part s) (λ y t. exec code (y ∷ stack) t)
   exec-part_code (Number z) code stack s = refl
-  exec-part_code (Name number) code stack s = refl
+  exec-part_code (Name number place) code stack s = refl
   exec-part_code (Paren e) code stack s = exec-expr_code e code stack s
 
   exec-expr_code : (e : Expr) (code : List Instr) (stack : List ℤ) (s : State) → exec (expr_code e ++ code) stack s ≡ on_answer (eval_expr e s) (λ y t. exec code (y ∷ stack) t)

@@ -2,8 +2,9 @@
 -- is not of the form that is built so far.
 use Rattle.std.specs.Prelude.{ℕ, List, [], ◌∷◌, ◌++◌, Option, Some, None}
 use Rattle.std.specs.Option.{option_map, option_and_then}
+use Rattle.bqn_base.specs.declared.place.Place.{Place}
 use Rattle.bqn_base.specs.declared.role.Role.TheVariants as role
-use Rattle.bqn_machine.specs.declared.function.Function.{Function}
+use Rattle.bqn_machine.specs.declared.function.Callee.{Callee}
 use Rattle.bqn_syntax.specs.declared.token.Kind.{Kind}
 use Rattle.bqn_syntax.specs.declared.token.Kind.TheVariants as kind
 use Rattle.bqn_syntax.specs.declared.tree.Arrow.TheVariants as arrow
@@ -13,17 +14,17 @@ use Rattle.bqn_machine.specs.declared.code.Instr.{Instr}
 use Rattle.bqn_machine.specs.declared.code.Instr.TheVariants.{Const, Load, Define, Call1, Call2, Pop}
 
 -- the instruction of a part that is a single token
-abbrev pub leaf_instr : List (List ℕ) → Kind → Option Instr
-leaf_instr names (kind.Number z) = Some (Const z)
-leaf_instr names (kind.Word name role.Subject) = option_map (λ number. Load number) (number_of names name)
-leaf_instr names _ = None
+abbrev pub leaf_instr : List (List ℕ) → Place → Kind → Option Instr
+leaf_instr names place (kind.Number z) = Some (Const z)
+leaf_instr names place (kind.Word name role.Subject) = option_map (λ number. Load number place) (number_of names name)
+leaf_instr names place _ = None
 
 abbrev pub leaf_emitted : List Instr → Option Instr → Option (List Instr)
 leaf_emitted code instr = option_map (λ i. code ++ i ∷ []) instr
 
 abbrev mutual
   pub part_emitted : List (List ℕ) → List Instr → Part → Option (List Instr)
-  part_emitted names code (Leaf t) = leaf_emitted code (leaf_instr names t.kind)
+  part_emitted names code (Leaf t) = leaf_emitted code (leaf_instr names t.place t.kind)
   part_emitted names code (Paren e) = expr_emitted names code e
   part_emitted names code _ = None
 
@@ -43,7 +44,7 @@ abbrev mutual
   step_emitted names code (Apply function left) = call_emitted names code (function_of function) left
   step_emitted names code _ = None
 
-  pub call_emitted : List (List ℕ) → List Instr → Option Function → MaybePart → Option (List Instr)
+  pub call_emitted : List (List ℕ) → List Instr → Option Callee → MaybePart → Option (List Instr)
   call_emitted names code None left = None
   call_emitted names code (Some f) none = Some (code ++ Call1 f ∷ [])
   call_emitted names code (Some f) (some left) = option_map (λ code. code ++ Call2 f ∷ []) (part_emitted names code left)

@@ -2,10 +2,13 @@
 use Rattle.std.specs.Prelude.{ℕ, zero, suc, ℤ, List, [], ◌∷◌, ◌++◌, Option, Some, None, Result, Ok, Err, slice_get, encode_utf8_all}
 use Rattle.bqn_base.specs.declared.fault.Fault.{Fault}
 use Rattle.bqn_base.specs.declared.fault.Fault.TheVariants.{Domain, Undefined}
+use Rattle.bqn_base.specs.declared.place.Place.{Place}
 use Rattle.bqn_base.specs.Arithmetic.{sum_of, difference_of, product_of, negative_of, sign_of}
 use Rattle.bqn_base.specs.Printed.{line, number_text}
+use Rattle.bqn_machine.specs.declared.function.Callee.{Callee}
 use Rattle.bqn_machine.specs.declared.function.Function.{Function}
 use Rattle.bqn_machine.specs.declared.function.Function.TheVariants.{Plus, Minus, Times, Show}
+use Rattle.bqn_machine.specs.declared.raised.Raised.{Raised}
 use Rattle.bqn_machine.specs.Tree.{Part, Number, Name, Paren, Expr, Value, Apply1, Apply2, Stmt}
 
 -- the bytes written so far, the steps that are left, and the values of the names that are defined, by their numbers
@@ -17,7 +20,7 @@ pub record State : Type 0 where
 -- an answer, a fault, or that one more step is needed than is left; each with what was written before it
 pub data Res (A : Type 0) : Type 0 where
   Gives : A → State → Res A
-  Faults : Fault → State → Res A
+  Faults : Raised → State → Res A
   Spends : State → Res A
 
 -- an evaluation
@@ -47,6 +50,14 @@ answer_of Times (Some w) x = product_of w x
 answer_of Show None x = Ok x
 answer_of Show (Some w) x = Err Domain
 
+-- a fault is raised at this place
+abbrev pub raised : Place → Fault → Raised
+raised place f = record { fault = f; place = place }
+
+-- what is called has the place of its faults
+abbrev pub answer_at : Callee → Option ℤ → ℤ → Result ℤ Raised
+answer_at callee left x = elim (answer_of callee.function left x) [ Ok y ↦ Ok y | Err f ↦ Err (raised callee.place f) ]
+
 -- what a call writes: `•Show x` the text of x and a newline
 abbrev pub output_of : Function → Option ℤ → ℤ → List ℕ
 output_of Show None x = encode_utf8_all (line (number_text x))
@@ -56,21 +67,21 @@ output_of _ left x = []
 abbrev pub wrote : State → List ℕ → State
 wrote s bytes = record s { written = s.written ++ bytes }
 
-abbrev pub answered : Result ℤ Fault → M ℤ
+abbrev pub answered : Result ℤ Raised → M ℤ
 answered (Ok y) = pure y
 answered (Err f) = λ s. Faults f s
 
 -- a call
-abbrev pub call : Function → Option ℤ → ℤ → M ℤ
-call function left x = λ s. answered (answer_of function left x) (wrote s (output_of function left x))
+abbrev pub call : Callee → Option ℤ → ℤ → M ℤ
+call callee left x = λ s. answered (answer_at callee left x) (wrote s (output_of callee.function left x))
 
-abbrev pub known_value : Option ℤ → M ℤ
-known_value None = λ s. Faults Undefined s
-known_value (Some v) = pure v
+abbrev pub known_value : Place → Option ℤ → M ℤ
+known_value place None = λ s. Faults (raised place Undefined) s
+known_value place (Some v) = pure v
 
 -- the value of a name
-abbrev pub load : ℕ → M ℤ
-load number = λ s. known_value (slice_get s.vars number) s
+abbrev pub load : ℕ → Place → M ℤ
+load number place = λ s. known_value place (slice_get s.vars number) s
 
 -- gives the next name this value
 abbrev pub define : ℤ → M ℤ
@@ -80,7 +91,7 @@ define v = λ s. Gives v (record s { vars = s.vars ++ v ∷ [] })
 abbrev mutual
   pub eval_part : Part → M ℤ
   eval_part (Number z) = pure z
-  eval_part (Name number) = load number
+  eval_part (Name number place) = load number place
   eval_part (Paren e) = eval_expr e
 
   pub eval_expr : Expr → M ℤ

@@ -17,7 +17,7 @@ on_answer (Spends s) go = Some (Spends s)
 abbrev pub exec : List Instr → List ℤ → State → Run
 exec [] stack s = Some (Gives tt s)
 exec (Const x ∷ code) stack s = exec code (x ∷ stack) s
-exec (Load number ∷ code) stack s = on_answer (load number s) (λ y t. exec code (y ∷ stack) t)
+exec (Load number place ∷ code) stack s = on_answer (load number place s) (λ y t. exec code (y ∷ stack) t)
 exec (Define ∷ code) (x ∷ stack) s = on_answer (define x s) (λ y t. exec code (y ∷ stack) t)
 exec (Call1 f ∷ code) (x ∷ stack) s = on_answer (call f None x s) (λ y t. exec code (y ∷ stack) t)
 exec (Call2 f ∷ code) (w ∷ x ∷ stack) s = on_answer (call f (Some w) x s) (λ y t. exec code (y ∷ stack) t)

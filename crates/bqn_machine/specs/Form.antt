@@ -4,7 +4,9 @@
 use Rattle.std.specs.Prelude.{ℕ, nat_le, nat_eq, ◌==◌, true, false, if◌then◌else◌, List, [], ◌∷◌, ◌++◌, length, position, codes as ascii, Option, Some, None}
 use Rattle.std.specs.Cmp.Lexicographic.{pointwise}
 use Rattle.std.specs.Option.{option_map, option_and_then}
+use Rattle.bqn_base.specs.declared.place.Place.{Place}
 use Rattle.bqn_base.specs.declared.role.Role.TheVariants as role
+use Rattle.bqn_machine.specs.declared.function.Callee.{Callee}
 use Rattle.bqn_machine.specs.declared.function.Function.{Function}
 use Rattle.bqn_machine.specs.declared.function.Function.TheVariants.{Plus, Minus, Times, Show}
 use Rattle.bqn_syntax.specs.declared.token.Kind.{Kind}
@@ -30,12 +32,18 @@ kind_function (kind.Given code) = given_function code
 kind_function (kind.System name role.Function) = if pointwise nat_eq name (ascii "show") then Some Show else None
 kind_function _ = None
 
-abbrev pub part_function : plain.Part → Option Function
-part_function (Leaf t) = kind_function t.kind
+abbrev pub callee : Place → Function → Callee
+callee place f = record { function = f; place = place }
+
+abbrev pub token_function : Token → Option Callee
+token_function t = option_map (callee t.place) (kind_function t.kind)
+
+abbrev pub part_function : plain.Part → Option Callee
+part_function (Leaf t) = token_function t
 part_function _ = None
 
 -- a function without modifiers
-abbrev pub function_of : plain.Derived → Option Function
+abbrev pub function_of : plain.Derived → Option Callee
 function_of (derived part no_uses) = part_function part
 function_of _ = None
 
@@ -44,21 +52,21 @@ function_of _ = None
 abbrev pub number_of : List (List ℕ) → List ℕ → Option ℕ
 number_of names name = position (λ other. pointwise nat_eq other name) names
 
-abbrev pub leaf_in : List (List ℕ) → Kind → Option Part
-leaf_in names (kind.Number z) = Some (Number z)
-leaf_in names (kind.Word name role.Subject) = option_map (λ number. Name number) (number_of names name)
-leaf_in names _ = None
+abbrev pub leaf_in : List (List ℕ) → Place → Kind → Option Part
+leaf_in names place (kind.Number z) = Some (Number z)
+leaf_in names place (kind.Word name role.Subject) = option_map (λ number. Name number place) (number_of names name)
+leaf_in names place _ = None
 
-abbrev pub applied1 : Option Function → Expr → Option Expr
+abbrev pub applied1 : Option Callee → Expr → Option Expr
 applied1 f e = option_map (λ f. Apply1 f e) f
 
-abbrev pub applied2 : Option Function → Option Part → Expr → Option Expr
+abbrev pub applied2 : Option Callee → Option Part → Expr → Option Expr
 applied2 (Some f) (Some left) e = Some (Apply2 f left e)
 applied2 _ left e = None
 
 abbrev mutual
   pub part_in : List (List ℕ) → plain.Part → Option Part
-  part_in names (Leaf t) = leaf_in names t.kind
+  part_in names (Leaf t) = leaf_in names t.place t.kind
   part_in names (plain.Paren e) = option_map (λ e. Paren e) (expr_in names e)
   part_in names _ = None
 
@@ -79,7 +87,7 @@ abbrev mutual
   step_in names e (Apply function left) = call_in names (function_of function) e left
   step_in names e _ = None
 
-  pub call_in : List (List ℕ) → Option Function → Expr → plain.MaybePart → Option Expr
+  pub call_in : List (List ℕ) → Option Callee → Expr → plain.MaybePart → Option Expr
   call_in names f e none = applied1 f e
   call_in names f e (some left) = applied2 f (part_in names left) e
 

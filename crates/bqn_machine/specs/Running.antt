@@ -1,10 +1,11 @@
 -- What a run of code has done to a sink, and how it ends.
 use Rattle.std.specs.Prelude.{◌≡◌, ℕ, ℤ, List, [], ◌∷◌, ◌++◌, slice_get, Option, Some, None, Result, Ok, Err}
-use Rattle.bqn_base.specs.declared.fault.Fault.{Fault}
 use Rattle.bqn_base.specs.declared.fault.Fault.TheVariants.{Undefined}
+use Rattle.bqn_base.specs.declared.place.Place.{Place}
 use Rattle.bqn_io.specs.Writing.{Adds, AddsPart, Breaks}
-use Rattle.bqn_machine.specs.declared.function.Function.{Function}
-use Rattle.bqn_machine.specs.Evaluation.{Res, Gives, Faults, Spends, answer_of, output_of}
+use Rattle.bqn_machine.specs.declared.function.Callee.{Callee}
+use Rattle.bqn_machine.specs.declared.raised.Raised.{Raised}
+use Rattle.bqn_machine.specs.Evaluation.{Res, Gives, Faults, Spends, raised, answer_at, output_of}
 use Rattle.bqn_machine.specs.declared.code.Instr.{Instr}
 use Rattle.bqn_machine.specs.declared.code.Instr.TheVariants.{Const, Load, Define, Call1, Call2, Pop}
 use Rattle.bqn_machine.specs.declared.end.End.{End}
@@ -13,26 +14,26 @@ use Rattle.bqn_machine.specs.Execution.{Run}
 
 -- what one instruction makes of the stack, and what it writes
 pub record Act : Type 0 where
-  pub answer : Result (List ℤ) Fault
+  pub answer : Result (List ℤ) Raised
   pub output : List ℕ
 
-abbrev pub pushed : List ℤ → Result ℤ Fault → Result (List ℤ) Fault
+abbrev pub pushed : List ℤ → Result ℤ Raised → Result (List ℤ) Raised
 pushed stack (Ok y) = Ok (y ∷ stack)
 pushed stack (Err f) = Err f
 
 -- a call on the top; none where it is missing
-abbrev pub top_act : Function → Option ℤ → List ℤ → Option Act
+abbrev pub top_act : Callee → Option ℤ → List ℤ → Option Act
 top_act f left [] = None
-top_act f left (x ∷ stack) = Some (record { answer = pushed stack (answer_of f left x); output = output_of f left x })
+top_act f left (x ∷ stack) = Some (record { answer = pushed stack (answer_at f left x); output = output_of f.function left x })
 
-abbrev pub loaded : List ℤ → Option ℤ → Result (List ℤ) Fault
-loaded stack None = Err Undefined
-loaded stack (Some v) = Ok (v ∷ stack)
+abbrev pub loaded : Place → List ℤ → Option ℤ → Result (List ℤ) Raised
+loaded place stack None = Err (raised place Undefined)
+loaded place stack (Some v) = Ok (v ∷ stack)
 
 -- an instruction on a stack and the values of the names; none where an operand is missing
 abbrev pub act : Instr → List ℤ → List ℤ → Option Act
 act (Const x) stack vars = Some (record { answer = Ok (x ∷ stack); output = [] })
-act (Load number) stack vars = Some (record { answer = loaded stack (slice_get vars number); output = [] })
+act (Load number place) stack vars = Some (record { answer = loaded place stack (slice_get vars number); output = [] })
 act Define [] vars = None
 act Define (x ∷ stack) vars = Some (record { answer = Ok (x ∷ stack); output = [] })
 act (Call1 f) stack vars = top_act f None stack
@@ -53,7 +54,7 @@ written_by (Faults f s) = s.written
 written_by (Spends s) = s.written
 
 -- the value of a name is pushed, or it has none
-abbrev pub Loads : Result (List ℤ) Fault → List ℤ → Result (Unit {0}) End → Type 0
+abbrev pub Loads : Result (List ℤ) Raised → List ℤ → Result (Unit {0}) End → Type 0
 Loads answer stack (Ok u) = answer ≡ Ok stack
 Loads answer stack (Err (end.Faulted f)) = answer ≡ Err f
 Loads answer stack (Err end.Memory) = Unit {0}
@@ -61,7 +62,7 @@ Loads answer stack (Err _) = ⊥
 
 module _ {K : Type 0} (written : K → Option (List ℕ)) (room faults : K → ℕ) where
   -- a call answers and writes so; want of memory and a failed put leave a front of what it writes
-  abbrev pub Calls : Result ℤ Fault → List ℕ → K → K → Result ℤ End → Type 0
+  abbrev pub Calls : Result ℤ Raised → List ℕ → K → K → Result ℤ End → Type 0
   Calls answer output old new (Ok y) = (answer ≡ Ok y) × Adds written room faults old new output
   Calls answer output old new (Err (end.Faulted f)) = (answer ≡ Err f) × Adds written room faults old new output
   Calls answer output old new (Err end.Memory) = AddsPart written room faults old new output

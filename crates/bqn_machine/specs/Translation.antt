@@ -8,7 +8,7 @@ use Rattle.bqn_machine.specs.declared.code.Instr.TheVariants.{Const, Load, Defin
 abbrev mutual
   pub part_code : Part → List Instr
   part_code (Number z) = Const z ∷ []
-  part_code (Name number) = Load number ∷ []
+  part_code (Name number place) = Load number place ∷ []
   part_code (Paren e) = expr_code e
 
   pub expr_code : Expr → List Instr

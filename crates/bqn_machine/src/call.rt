@@ -1,10 +1,11 @@
 ghost use Rattle.std.specs.Prelude.{◌≡◌};
-ghost use Rattle.bqn_machine.specs.Evaluation.{answer_of, output_of};
+ghost use Rattle.bqn_machine.specs.Evaluation.{answer_at, answer_of, output_of};
 ghost use Rattle.bqn_machine.specs.Running.{Calls};
 
 use crate::end::End;
-use crate::function::Function;
+use crate::function::{Callee, Function};
 use crate::line::number_line;
+use crate::raised::Raised;
 use bqn_base::{Fault, num};
 use bqn_io::Sink;
 use std::alloc::Global;
@@ -26,14 +27,14 @@ fn answer(function: Function, left: Option<i64>, x: i64) -> Result<i64, Fault>
 /// Calls a function on numbers. Only `•Show` without a left argument writes.
 pub(crate) fn call<K: Sink>(
     alloc: Global,
-    function: Function,
+    callee: Callee,
     left: Option<i64>,
     x: i64,
     out: &mut K,
 ) -> Result<i64, End>
-    ensures { Calls K.written K.room K.faults (answer_of function left x) (output_of function left x) out.old out.new result }
+    ensures { Calls K.written K.room K.faults (answer_at callee left x) (output_of callee.function left x) out.old out.new result }
 {
-    if let (Function::Show, None) = (function, left) {
+    if let (Function::Show, None) = (callee.function, left) {
         let Ok(line) = number_line(alloc, x) else {
             return Err(End::Memory);
         };
@@ -42,8 +43,11 @@ pub(crate) fn call<K: Sink>(
         }
         return Ok(x);
     }
-    match answer(function, left, x) {
+    match answer(callee.function, left, x) {
         Ok(y) => Ok(y),
-        Err(fault) => Err(End::Faulted(fault)),
+        Err(fault) => Err(End::Faulted(Raised {
+            fault,
+            place: callee.place,
+        })),
     }
 }

@@ -13,7 +13,7 @@ use crate::code::Instr;
 use crate::error::CompileError;
 use crate::functions::function_of;
 use bqn_base::Role;
-use bqn_syntax::{Arrow, Expr, Kind, Part, Pattern, Step, Stmt};
+use bqn_syntax::{Arrow, Expr, Kind, Part, Pattern, Step, Stmt, Token};
 use indexmap::IndexSet;
 use std::alloc::Global;
 
@@ -26,24 +26,27 @@ fn number_of(names: &IndexSet<Vec<char>>, name: &[char]) -> Option<usize>
 }
 
 /// The instruction of a part that is a single token.
-fn instr_of(names: &IndexSet<Vec<char>>, kind: &Kind) -> Option<Instr>
-    ensures { result ≡ leaf_instr (spelled names.now.keys) kind.now }
+fn instr_of(names: &IndexSet<Vec<char>>, token: &Token) -> Option<Instr>
+    ensures { result ≡ leaf_instr (spelled names.now.keys) token.now.place token.now.kind }
 {
-    match kind {
+    match &token.kind {
         Kind::Number(number) => Some(Instr::Const(*number)),
-        Kind::Word(name, Role::Subject) => number_of(names, name.chars()).map(Instr::Load),
+        Kind::Word(name, Role::Subject) => match number_of(names, name.chars()) {
+            Some(number) => Some(Instr::Load(number, token.place)),
+            None => None,
+        },
         _ => None,
     }
 }
 
 fn emit_leaf(
     names: &IndexSet<Vec<char>>,
-    kind: &Kind,
+    token: &Token,
     code: &mut Vec<Instr>,
 ) -> Result<(), CompileError>
-    ensures { ReadsAs (λ done. code.new.items) (leaf_emitted code.old.items (leaf_instr (spelled names.now.keys) kind.now)) result }
+    ensures { ReadsAs (λ done. code.new.items) (leaf_emitted code.old.items (leaf_instr (spelled names.now.keys) token.now.place token.now.kind)) result }
 {
-    let Some(instr) = instr_of(names, kind) else {
+    let Some(instr) = instr_of(names, token) else {
         return Err(CompileError::NotYet);
     };
     code.push(instr)?;
@@ -60,7 +63,7 @@ fn emit_part(
     ensures { ReadsAs (λ done. code.new.items) (part_emitted (spelled names.now.keys) code.old.items (part_of part.now)) result }
 {
     match part {
-        Part::Leaf(token) => emit_leaf(names, &token.kind, code),
+        Part::Leaf(token) => emit_leaf(names, token, code),
         Part::Paren(inner) => emit_expr(names, inner.get(), code),
         _ => Err(CompileError::NotYet),
     }

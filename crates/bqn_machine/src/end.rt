@@ -1,10 +1,10 @@
-use bqn_base::Fault;
+use crate::raised::Raised;
 
 /// How a run ends. Want of memory and a failed put leave a prefix of what is to be written.
 #[derive(Debug, Drop)]
 pub enum End {
     Done,
-    Faulted(Fault),
+    Faulted(Raised),
     Spent,
     Memory,
     WriteFault,

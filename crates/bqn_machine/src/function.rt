@@ -1,3 +1,5 @@
+use bqn_base::Place;
+
 /// What is called: `+`, `-`, `×` or `•Show`.
 #[derive(Clone, Copy, Debug, PartialEq, Eq)]
 pub enum Function {
@@ -5,4 +7,11 @@ pub enum Function {
     Minus,
     Times,
     Show,
+}
+
+/// A function, and the place of its token.
+#[derive(Clone, Copy, Debug, PartialEq, Eq)]
+pub struct Callee {
+    pub function: Function,
+    pub place: Place,
 }

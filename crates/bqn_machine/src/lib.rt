@@ -10,11 +10,13 @@ mod error;
 mod function;
 mod functions;
 mod line;
+mod raised;
 mod run;
 
 pub use code::Instr;
 pub use compiler::compile;
 pub use end::End;
 pub use error::CompileError;
-pub use function::Function;
+pub use function::{Callee, Function};
+pub use raised::Raised;
 pub use run::run_code;

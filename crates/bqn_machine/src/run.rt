@@ -5,8 +5,9 @@ ghost use Rattle.bqn_machine.specs.Running.{act, loaded, top_act, vars_behind, A
 use crate::call::call;
 use crate::code::Instr;
 use crate::end::End;
-use crate::function::Function;
-use bqn_base::Fault;
+use crate::function::Callee;
+use crate::raised::Raised;
+use bqn_base::{Fault, Place};
 use bqn_io::Sink;
 use std::alloc::Global;
 
@@ -14,16 +15,16 @@ use std::alloc::Global;
 #[tactic(auto, using(crate::proofs::Steps::step_laws))]
 fn call_top<K: Sink>(
     alloc: Global,
-    function: Function,
+    callee: Callee,
     left: Option<i64>,
     stack: &mut Vec<i64>,
     out: &mut K,
 ) -> Result<(), End>
-    requires { IsSome (top_act function left (reverse stack.old.items)) }
-    ensures { Acts K.written K.room K.faults (top_act function left (reverse stack.old.items)) (reverse stack.new.items) out.old out.new result }
+    requires { IsSome (top_act callee left (reverse stack.old.items)) }
+    ensures { Acts K.written K.room K.faults (top_act callee left (reverse stack.old.items)) (reverse stack.new.items) out.old out.new result }
 {
     let Some(x) = stack.pop() else { unreachable!() };
-    match call(alloc, function, left, x, out) {
+    match call(alloc, callee, left, x, out) {
         Err(end) => Err(end),
         Ok(answer) => match stack.push(answer) {
             Ok(()) => Ok(()),
@@ -54,12 +55,15 @@ fn value_at(vars: &[i64], number: usize) -> Option<i64>
 
 /// Pushes the value of a name.
 #[tactic(auto, using(crate::proofs::Steps::step_laws))]
-fn load(stack: &mut Vec<i64>, vars: &[i64], number: usize) -> Result<(), End>
-    ensures { Loads (loaded (reverse stack.old.items) (slice_get vars.now number)) (reverse stack.new.items) result }
+fn load(stack: &mut Vec<i64>, vars: &[i64], number: usize, place: Place) -> Result<(), End>
+    ensures { Loads (loaded place (reverse stack.old.items) (slice_get vars.now number)) (reverse stack.new.items) result }
 {
     match value_at(vars, number) {
         Some(x) => push(stack, x),
-        None => Err(End::Faulted(Fault::Undefined)),
+        None => Err(End::Faulted(Raised {
+            fault: Fault::Undefined,
+            place,
+        })),
     }
 }
 
@@ -78,19 +82,19 @@ fn step<K: Sink>(
 {
     match instr {
         Instr::Const(x) => push(stack, x),
-        Instr::Load(number) => load(stack, vars, number),
+        Instr::Load(number, place) => load(stack, vars, number, place),
         Instr::Define => {
             let Some(x) = stack.last().copied() else {
                 unreachable!()
             };
             push(vars, x)
         }
-        Instr::Call1(function) => call_top(alloc, function, None, stack, out),
-        Instr::Call2(function) => {
+        Instr::Call1(callee) => call_top(alloc, callee, None, stack, out),
+        Instr::Call2(callee) => {
             let Some(left) = stack.pop() else {
                 unreachable!()
             };
-            call_top(alloc, function, Some(left), stack, out)
+            call_top(alloc, callee, Some(left), stack, out)
         }
         Instr::Pop => {
             let _ = stack.pop();

@@ -1,16 +1,16 @@
 use super::{is_refused, ran};
+use bqn_base::Status;
 use std::test::Fail;
 
-/// Whether the file `f` with this source breaks no rule of brackets, grammar or blocks: it goes past
-/// what is built so far, or a name in it is refused.
+/// Whether the file `f` with this source breaks no rule of brackets, grammar or blocks: it is
+/// accepted, or a name in it is refused.
 fn is_well(rt: &HostRuntime, source: &str) -> Result<bool, Fail> {
-    let (_, bytes) = ran(rt, "run f", source.as_bytes(), &[])?;
-    let refusals = ["NotYet", "Undeclared", "Redefined", "Early"];
-    Ok(
-        refusals.iter().any(|kind| bytes
-            .strip_prefix(b"Refused: ")
-            .is_some_and(|rest| rest.starts_with(kind.as_bytes()))),
-    )
+    let (status, bytes) = ran(rt, "check f", source.as_bytes(), &[])?;
+    let refusals = ["Undeclared", "Redefined", "Early"];
+    let is_a_name = refusals.iter().any(|kind| bytes
+        .strip_prefix(b"Refused: ")
+        .is_some_and(|rest| rest.starts_with(kind.as_bytes())));
+    Ok(is_a_name || status == Status::Done)
 }
 
 #[test]

@@ -1,4 +1,4 @@
-use super::is_refused;
+use super::{is_accepted, is_refused};
 use std::test::Fail;
 
 #[test]
@@ -84,7 +84,7 @@ fn names_that_are_known(rt: HostRuntime) -> Result<(), Fail> {
         "a_B←1⋄AB 2",
         "•OUT \"a\"",
     ] {
-        assert!(rt; is_refused(&rt, source, "NotYet")?, "{source}");
+        assert!(rt; is_accepted(&rt, source)?, "{source}");
     }
     Ok(())
 }
