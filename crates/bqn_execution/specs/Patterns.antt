@@ -5,7 +5,7 @@ use Rattle.std.specs.Option.{option_and_then}
 use Rattle.bqn_base.specs.declared.fault.Fault.{Fault}
 use Rattle.bqn_rows.specs.Plain.{Value, Number, Character, Array, Namespace, Values, more, count}
 use Rattle.bqn_meaning.specs.Actions.{◌>>=◌, pure, known, where_so}
-use Rattle.bqn_meaning.specs.Frames.{text_value}
+use Rattle.bqn_rows.specs.Arrays.{text_value}
 use Rattle.bqn_meaning.specs.Matching.{Fit, Fits, Mismatch, Missing, literal_fit, and_fit, must_fit}
 use Rattle.bqn_code.specs.declared.constant.Const.{Const}
 use Rattle.bqn_code.specs.declared.constant.Const.TheVariants as const

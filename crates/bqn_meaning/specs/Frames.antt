@@ -4,6 +4,7 @@ use Rattle.bqn_base.specs.declared.fault.Fault.{Fault}
 use Rattle.bqn_base.specs.declared.fault.Fault.TheVariants.{Undefined}
 use Rattle.bqn_rows.specs.Plain.{Value, Number, Character, Given, Function, Modifier1, Modifier2, Values, none, more, values}
 use Rattle.bqn_rows.specs.Limits.{array}
+use Rattle.bqn_rows.specs.Arrays.{text_value, and_then, all_ok}
 use Rattle.bqn_rows.specs.Calls.{Arguments, no_arguments, alone, two}
 use Rattle.bqn_syntax.specs.declared.token.Special.{Special}
 use Rattle.bqn_syntax.specs.declared.token.Special.TheVariants as special
@@ -41,26 +42,9 @@ pub record Frame : Type 0 where
 
 -- ---- literals
 
--- a list of characters, with the space as its fill
-abbrev pub text_value : List ℕ → Result Value Fault
-text_value cs = array (length cs ∷ []) (values (map Character cs)) (Some (Character 32))
-
-abbrev pub and_text : Result Value Fault → Result Values Fault → Result Values Fault
-and_text (Ok v) (Ok vs) = Ok (more v vs)
-and_text (Ok v) (Err f) = Err f
-and_text (Err f) vs = Err f
-
-abbrev pub text_values : List (List ℕ) → Result Values Fault
-text_values [] = Ok none
-text_values (word ∷ words) = and_text (text_value word) (text_values words)
-
-abbrev pub list_of_texts : ℕ → Result Values Fault → Result Value Fault
-list_of_texts n (Ok vs) = array (n ∷ []) vs None
-list_of_texts n (Err f) = Err f
-
 -- the value of `•args` for these words
 abbrev pub args_value : List (List ℕ) → Result Value Fault
-args_value words = list_of_texts (length words) (text_values words)
+args_value words = and_then (all_ok (map text_value words)) (λ texts. array (length words ∷ []) (values texts) None)
 
 -- a number, a character or a text
 abbrev pub literal : Kind → Result Value Fault
