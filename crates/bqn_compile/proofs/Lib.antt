@@ -1,4 +1,5 @@
 pub mod verified
+pub mod Accepted
 pub mod Counts
 pub mod Gathered
 pub mod Keys
@@ -16,3 +17,4 @@ pub mod Sources
 pub mod Placings
 mod Samples
 mod BodySamples
+mod AcceptedSamples
