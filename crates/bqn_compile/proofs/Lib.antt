@@ -1,4 +1,5 @@
 pub mod verified
+pub mod Accepted
 pub mod Counts
 pub mod Gathered
 pub mod Keys
@@ -17,3 +18,4 @@ pub mod Placings
 pub mod StepLeads
 mod Samples
 mod BodySamples
+mod AcceptedSamples

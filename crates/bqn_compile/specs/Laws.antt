@@ -3,7 +3,9 @@ use Rattle.std.specs.Prelude.{◌≡◌, ◌≤◌, ℕ, ◌+◌, suc, List, len
 use Rattle.bqn_syntax.specs.declared.token.Token.{Token}
 use Rattle.bqn_syntax.specs.grammar.Trees.{Stmts}
 use Rattle.bqn_syntax.specs.grammar.Spells.{Spells}
-use Rattle.bqn_syntax.specs.scope.Bodies.{Resolution}
+use Rattle.bqn_syntax.specs.grammar.Parsing.{parsed}
+use Rattle.bqn_syntax.specs.scope.Bodies.{Resolution, resolution}
+use Rattle.bqn_syntax.specs.text.Tokens.{tokens_of_source}
 use Rattle.bqn_code.specs.Plain.{Code}
 use Rattle.bqn_code.specs.Verified.{Verified}
 use Rattle.bqn_compile.specs.Sources.{FromSource}
@@ -26,3 +28,8 @@ TranslatedCodeIsVerified = (outer : List (List ℕ)) (ss : Stmts) (tokens : List
 abbrev pub BlocksAndNamesAreFew : Type 0
 BlocksAndNamesAreFew = (ss : Stmts) (tokens : List Token) (r : Resolution) (code : Code) →
     Spells ss tokens → translated r ss ≡ Ok code → length code.blocks + length code.names ≤ suc (length tokens)
+
+-- a source whose tokens, tree and names are accepted has what a tree of a source has
+abbrev pub AcceptedTreesAreFromSources : Type 0
+AcceptedTreesAreFromSources = (outer : List (List ℕ)) (bytes : List ℕ) (tokens : List Token) (ss : Stmts) (r : Resolution) →
+    tokens_of_source bytes ≡ Ok tokens → parsed tokens ≡ Ok ss → resolution outer ss ≡ Ok r → FromSource outer ss tokens r

@@ -9,5 +9,6 @@ pub mod Blocks
 pub mod Translation
 pub mod Shown
 pub mod Walking
+pub mod Items
 pub mod Sources
 pub mod Laws

@@ -29,4 +29,6 @@ mod walk;
 
 pub use compiling::compile;
 pub use error::CompileError;
-pub use laws::{blocks_and_names_are_few, translated_code_is_verified};
+pub use laws::{
+    accepted_trees_are_from_sources, blocks_and_names_are_few, translated_code_is_verified,
+};

@@ -68,6 +68,11 @@ module _ (m : Most) (constant : Const → Bool) (name : List ℕ → Bool) where
   KindPasses (kind.Word n r) = name n ≡ true
   KindPasses k = ConstantPasses (constant_of k)
 
+  -- a name by itself is pooled where it is exported
+  abbrev pub AlonePasses : How → Kind → Type 0
+  AlonePasses how (kind.Word n r) = exports_it how ≡ true → name n ≡ true
+  AlonePasses how k = ConstantPasses (constant_of k)
+
   abbrev mutual
     pub PatternPasses : Pattern → Type 0
     PatternPasses (Name t) = KindPasses t.kind
@@ -97,7 +102,7 @@ module _ (m : Most) (constant : Const → Bool) (name : List ℕ → Bool) where
     AllExportedPass (and_patterns q qs) = ExportedPasses q × AllExportedPass qs
 
   abbrev pub ItemPasses : Item → Type 0
-  ItemPasses (Alone how t) = KindPasses t.kind
+  ItemPasses (Alone how t) = AlonePasses how t.kind
   ItemPasses (Fields ts) = FieldsPass ts
   ItemPasses (Taken l how q) = PatternPasses q
   ItemPasses (Opened place n) = Unit {0}
@@ -155,8 +160,8 @@ module _ (m : Most) (constant : Const → Bool) (name : List ℕ → Bool) where
         few_names = omega (arith, length-append g.names (n ∷ []));
       })
 
-  pooled_if_passes : (b : Bool) (n : List ℕ) → name n ≡ true → PassesBy 1 (gather.pooled_if b n)
-  pooled_if_passes true n p = pooled_passes n p
+  pooled_if_passes : (b : Bool) (n : List ℕ) → (b ≡ true → name n ≡ true) → PassesBy 1 (gather.pooled_if b n)
+  pooled_if_passes true n p = pooled_passes n (p refl)
   pooled_if_passes false n p = at_most 0 1 done (omega arith) done_passes
 
   module _ (uses : List scope.Use) where
@@ -165,7 +170,7 @@ module _ (m : Most) (constant : Const → Bool) (name : List ℕ → Bool) where
         subst (λ (h : Gathered). Passes 0 g h) (roomed (gather.room_for m defining (seen_at uses g.uses).slot) place (λ (g : Gathered). record g { uses = suc g.uses }) g h e)
         (record { constants = λ q. q; names = λ q. q; few_constants = λ q. q; few_names = omega arith })
 
-    leaf_passes : (how : How) (k : Kind) (place : Place) → KindPasses k → PassesBy 1 (gather.leaf m uses how k place)
+    leaf_passes : (how : How) (k : Kind) (place : Place) → AlonePasses how k → PassesBy 1 (gather.leaf m uses how k place)
     leaf_passes how (kind.Word n r) place p = both_pass 0 1 (gather.refers m uses (defines how) place) (gather.pooled_if (exports_it how) n) (refers_passes (defines how) place) (pooled_if_passes (exports_it how) n p)
     leaf_passes how k place p = at_most 0 1 (gather.constant m (constant_of k) place) (omega arith) (constant_passes (constant_of k) place p)
 

@@ -11,23 +11,26 @@ use Rattle.bqn_syntax.specs.grammar.Spells.{Gap, stmts_signs}
 use Rattle.bqn_syntax.specs.grammar.Well.{WellPattern, WellPatterns, WellJoined, AreTwo}
 use Rattle.bqn_syntax.specs.scope.Scope as scope
 use Rattle.bqn_syntax.specs.scope.Scope.{name_of, spelling}
-use Rattle.bqn_syntax.specs.scope.Bodies.{Resolution}
+use Rattle.bqn_syntax.specs.scope.Bodies.{Resolution, exports_it}
+use Rattle.bqn_syntax.specs.scope.Order.{How}
+use Rattle.bqn_syntax.specs.text.Fitting.{KindFits, TokenFits, KindBegins, TokenBegins, begins_with_letter}
 use Rattle.bqn_code.specs.Plain as code
-use Rattle.bqn_code.specs.Conditions.{begins_with_letter, is_few, text_is_short}
+use Rattle.bqn_code.specs.Conditions.{is_few, text_is_short}
 use Rattle.bqn_compile.specs.declared.count.Count.{Count}
 use Rattle.bqn_compile.specs.Counting.{past, in_kind, in_leaves}
 use Rattle.bqn_compile.specs.Gathering as gather
 use Rattle.bqn_compile.specs.Gathering.{Gathered, Most, the_most, gathered}
-use Rattle.bqn_compile.specs.Sources.{KindFits, TokenFits, FromSource}
+use Rattle.bqn_compile.specs.Items.{AllTokens, PatternTokens, PatternsTokens}
+use Rattle.bqn_compile.specs.Sources.{ItemBegins, FromSource}
 use Rattle.bqn_compile.specs.Translation as translation
 use Rattle.bqn_compile.proofs.verified.pools.Items.{Item, Alone, Fields, Taken, Opened, Shown, AreWords, WellItem, EveryItem, EachItem, item_count, items_count, items_gathering, stmts_items}
 use Rattle.bqn_compile.proofs.verified.Tests.{both_true}
 use Rattle.bqn_compile.proofs.verified.pools.GatheredItems.{stmts_has}
 use Rattle.bqn_compile.proofs.verified.pools.Growth.{begins_same, Grows, leaves_are_uses, all_grow}
 use Rattle.bqn_compile.proofs.verified.pools.WellItems.{program_well}
-use Rattle.bqn_compile.proofs.verified.pools.SpelledItems.{ItemTokens, AllTokens, PatternTokens, PatternsTokens, pattern_size, patterns_size, item_size, items_size, fits_size, exacts_hold, stmts_give}
+use Rattle.bqn_compile.proofs.verified.pools.SpelledItems.{ItemTokens, pattern_size, patterns_size, item_size, items_size, fits_size, exacts_hold, stmts_give}
 use Rattle.bqn_compile.proofs.verified.pools.PooledItems.{ItemPooled, Within, all_pooled}
-use Rattle.bqn_compile.proofs.verified.pools.Passing.{KindPasses, PatternPasses, PatternsPass, FieldsPass, ExportedPasses, AllExportedPass, ItemPasses, Passes, all_pass}
+use Rattle.bqn_compile.proofs.verified.pools.Passing.{KindPasses, AlonePasses, PatternPasses, PatternsPass, FieldsPass, ExportedPasses, AllExportedPass, ItemPasses, Passes, all_pass}
 
 -- ---- all of what is known of one thing
 
@@ -35,15 +38,16 @@ pub record Facts (uses : List scope.Use) (pools : Gathered) (c : Count) (x : Ite
   pub pooled : ItemPooled uses pools c x
   pub well : WellItem x
   pub tokens : ItemTokens TokenFits x
+  pub letters : ItemBegins x
   pub size : item_size x ≤ 2 ^ 28
 
 every_size : (xs : List Item) (n : ℕ) → items_size xs ≤ n → EveryItem (λ x. item_size x ≤ n) xs
 every_size [] n h = tt
 every_size (x ∷ xs) n h = (omega arith, every_size xs n (omega arith))
 
-all_facts : (uses : List scope.Use) (pools : Gathered) (c : Count) (xs : List Item) → EachItem (ItemPooled uses pools) c xs → EveryItem WellItem xs → EveryItem (ItemTokens TokenFits) xs → EveryItem (λ x. item_size x ≤ 2 ^ 28) xs → EachItem (Facts uses pools) c xs
-all_facts uses pools c [] p w t s = tt
-all_facts uses pools c (x ∷ xs) p w t s = (record { pooled = p.0; well = w.0; tokens = t.0; size = s.0 }, all_facts uses pools (past c (item_count x)) xs p.1 w.1 t.1 s.1)
+all_facts : (uses : List scope.Use) (pools : Gathered) (c : Count) (xs : List Item) → EachItem (ItemPooled uses pools) c xs → EveryItem WellItem xs → EveryItem (ItemTokens TokenFits) xs → EveryItem ItemBegins xs → EveryItem (λ x. item_size x ≤ 2 ^ 28) xs → EachItem (Facts uses pools) c xs
+all_facts uses pools c [] p w t l s = tt
+all_facts uses pools c (x ∷ xs) p w t l s = (record { pooled = p.0; well = w.0; tokens = t.0; letters = l.0; size = s.0 }, all_facts uses pools (past c (item_count x)) xs p.1 w.1 t.1 l.1 s.1)
 
 pub each_every : (P : Count → Item → Type 0) (Q : Item → Type 0) (c : Count) (xs : List Item) → ((c : Count) (x : Item) → P c x → Q x) → EachItem P c xs → EveryItem Q xs
 each_every P Q c [] f h = tt
@@ -59,55 +63,62 @@ module _ (m : Most) (test : List ℕ → Bool) (passes : (name : List ℕ) → b
   short : (cs : List ℕ) → length cs ≤ 2 ^ 28 → is_few (length cs) ≡ true
   short cs h = lt-ltb (length cs) (2 ^ 32) (omega arith)
 
-  kind_passes : (k : Kind) → KindFits k → KindPasses m text_is_short test k
-  kind_passes (kind.Word name r) h = passes name h.0 h.1
-  kind_passes (kind.Text cs) h = short cs h
-  kind_passes (kind.Number z) h = refl
-  kind_passes (kind.Char c) h = refl
-  kind_passes k h = tt
+  kind_passes : (k : Kind) → KindFits k → KindBegins k → KindPasses m text_is_short test k
+  kind_passes (kind.Word name r) h l = passes name l h.short
+  kind_passes (kind.Text cs) h l = short cs h
+  kind_passes (kind.Number z) h l = refl
+  kind_passes (kind.Char c) h l = refl
+  kind_passes k h l = tt
 
-  word_passes : (k : Kind) (t : Token) → t.kind ≡ k → is_word k ≡ true → KindFits k → test (name_of t) ≡ true
-  word_passes (kind.Word name r) t e w h = subst (λ (k : Kind). test (spelling k) ≡ true) (sym e) (passes name h.0 h.1)
-  word_passes k t e w h = absurd (cc)
+  alone_passes : (how : How) (k : Kind) → KindFits k → (exports_it how ≡ true → KindBegins k) → AlonePasses m text_is_short test how k
+  alone_passes how (kind.Word name r) h l = λ e. passes name (l e) h.short
+  alone_passes how (kind.Text cs) h l = short cs h
+  alone_passes how (kind.Number z) h l = refl
+  alone_passes how (kind.Char c) h l = refl
+  alone_passes how k h l = tt
 
-  fields_pass : (ts : List Token) → AreWords ts → AllTokens TokenFits ts → FieldsPass m text_is_short test ts
-  fields_pass [] w h = tt
-  fields_pass (t ∷ ts) w h = (word_passes t.kind t refl w.0 h.0, fields_pass ts w.1 h.1)
+  word_passes : (k : Kind) (t : Token) → t.kind ≡ k → is_word k ≡ true → KindFits k → KindBegins k → test (name_of t) ≡ true
+  word_passes (kind.Word name r) t e w h l = subst (λ (k : Kind). test (spelling k) ≡ true) (sym e) (passes name l h.short)
+  word_passes k t e w h l = absurd (cc)
 
-  mutual
-    pattern_passes : (q : Pattern) → PatternTokens TokenFits q → PatternPasses m text_is_short test q
-    pattern_passes (Name t) h = kind_passes t.kind h
-    pattern_passes (Skip place) h = tt
-    pattern_passes (Literal t) h = kind_passes t.kind h
-    pattern_passes (ListPattern qs) h = patterns_pass qs h
-    pattern_passes (StrandPattern qs) h = patterns_pass qs h
-
-    patterns_pass : (qs : Patterns) → PatternsTokens TokenFits qs → PatternsPass m text_is_short test qs
-    patterns_pass no_patterns h = tt
-    patterns_pass (and_patterns q qs) h = (pattern_passes q h.0, patterns_pass qs h.1)
+  fields_pass : (ts : List Token) → AreWords ts → AllTokens TokenFits ts → AllTokens TokenBegins ts → FieldsPass m text_is_short test ts
+  fields_pass [] w h l = tt
+  fields_pass (t ∷ ts) w h l = (word_passes t.kind t refl w.0 h.0 l.0, fields_pass ts w.1 h.1 l.1)
 
   mutual
-    exported_passes : (q : Pattern) → WellPattern false q → PatternTokens TokenFits q → ExportedPasses m text_is_short test q
-    exported_passes (Name t) w h = word_passes t.kind t refl w h
-    exported_passes (Skip place) w h = tt
-    exported_passes (Literal t) w h = tt
-    exported_passes (ListPattern qs) w h = all_exported_pass qs w h
-    exported_passes (StrandPattern qs) w h = joined_shown_pass qs w.1 h
+    pattern_passes : (q : Pattern) → PatternTokens TokenFits q → PatternTokens TokenBegins q → PatternPasses m text_is_short test q
+    pattern_passes (Name t) h l = kind_passes t.kind h l
+    pattern_passes (Skip place) h l = tt
+    pattern_passes (Literal t) h l = kind_passes t.kind h l
+    pattern_passes (ListPattern qs) h l = patterns_pass qs h l
+    pattern_passes (StrandPattern qs) h l = patterns_pass qs h l
 
-    all_exported_pass : (qs : Patterns) → WellPatterns false qs → PatternsTokens TokenFits qs → AllExportedPass m text_is_short test qs
-    all_exported_pass no_patterns w h = tt
-    all_exported_pass (and_patterns q qs) w h = (exported_passes q w.0 h.0, all_exported_pass qs w.1 h.1)
+    patterns_pass : (qs : Patterns) → PatternsTokens TokenFits qs → PatternsTokens TokenBegins qs → PatternsPass m text_is_short test qs
+    patterns_pass no_patterns h l = tt
+    patterns_pass (and_patterns q qs) h l = (pattern_passes q h.0 l.0, patterns_pass qs h.1 l.1)
 
-    joined_shown_pass : (qs : Patterns) → WellJoined false qs → PatternsTokens TokenFits qs → AllExportedPass m text_is_short test qs
-    joined_shown_pass no_patterns w h = tt
-    joined_shown_pass (and_patterns q qs) w h = (exported_passes q w.1 h.0, joined_shown_pass qs w.2 h.1)
+  mutual
+    exported_passes : (q : Pattern) → WellPattern false q → PatternTokens TokenFits q → PatternTokens TokenBegins q → ExportedPasses m text_is_short test q
+    exported_passes (Name t) w h l = word_passes t.kind t refl w h l
+    exported_passes (Skip place) w h l = tt
+    exported_passes (Literal t) w h l = tt
+    exported_passes (ListPattern qs) w h l = all_exported_pass qs w h l
+    exported_passes (StrandPattern qs) w h l = joined_shown_pass qs w.1 h l
 
-  item_passes : (x : Item) → WellItem x → ItemTokens TokenFits x → ItemPasses m text_is_short test x
-  item_passes (Alone how t) w h = kind_passes t.kind h
-  item_passes (Fields ts) w h = fields_pass ts w h
-  item_passes (Taken l how q) w h = pattern_passes q h
-  item_passes (Opened place n) w h = tt
-  item_passes (Shown q) w h = exported_passes q w h
+    all_exported_pass : (qs : Patterns) → WellPatterns false qs → PatternsTokens TokenFits qs → PatternsTokens TokenBegins qs → AllExportedPass m text_is_short test qs
+    all_exported_pass no_patterns w h l = tt
+    all_exported_pass (and_patterns q qs) w h l = (exported_passes q w.0 h.0 l.0, all_exported_pass qs w.1 h.1 l.1)
+
+    joined_shown_pass : (qs : Patterns) → WellJoined false qs → PatternsTokens TokenFits qs → PatternsTokens TokenBegins qs → AllExportedPass m text_is_short test qs
+    joined_shown_pass no_patterns w h l = tt
+    joined_shown_pass (and_patterns q qs) w h l = (exported_passes q w.1 h.0 l.0, joined_shown_pass qs w.2 h.1 l.1)
+
+  item_passes : (x : Item) → WellItem x → ItemTokens TokenFits x → ItemBegins x → ItemPasses m text_is_short test x
+  item_passes (Alone how t) w h l = alone_passes how t.kind h l
+  item_passes (Fields ts) w h l = fields_pass ts w h l
+  item_passes (Taken literals how q) w h l = pattern_passes q h l
+  item_passes (Opened place n) w h l = tt
+  item_passes (Shown q) w h l = exported_passes q w h l
 
 -- ---- how many patterns
 
@@ -204,11 +215,11 @@ module _ (outer : List (List ℕ)) (ss : Stmts) (tokens : List Token) (r : Resol
   same = record { constants = begins_same pools.constants; names = begins_same pools.names; patterns = begins_same pools.patterns }
 
   facts : EachItem (Facts r.uses pools) translation.at_start xs
-  facts = all_facts r.uses pools translation.at_start xs (all_pooled the_most r.uses xs are_well gather.at_start pools pools translation.at_start refl refl run same) are_well fit (every_size xs (2 ^ 28) size)
+  facts = all_facts r.uses pools translation.at_start xs (all_pooled the_most r.uses xs are_well gather.at_start pools pools translation.at_start refl refl run same) are_well fit s.letters (every_size xs (2 ^ 28) size)
 
   passing : (test : List ℕ → Bool) → ((name : List ℕ) → begins_with_letter name ≡ true → length name ≤ 2 ^ 28 → test name ≡ true) → Passes the_most text_is_short test (items_size xs) gather.at_start pools
   passing test h =
-      all_pass the_most text_is_short test r.uses xs (each_every (Facts r.uses pools) (ItemPasses the_most text_is_short test) translation.at_start xs (λ c x f. item_passes the_most test h x f.well f.tokens) facts) gather.at_start pools run
+      all_pass the_most text_is_short test r.uses xs (each_every (Facts r.uses pools) (ItemPasses the_most text_is_short test) translation.at_start xs (λ c x f. item_passes the_most test h x f.well f.tokens f.letters) facts) gather.at_start pools run
 
   pub source_pools : SourcePools r.uses pools ss
   source_pools =

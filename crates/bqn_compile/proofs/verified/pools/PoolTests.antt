@@ -14,6 +14,7 @@ use Rattle.bqn_syntax.specs.grammar.Trees as tree
 use Rattle.bqn_syntax.specs.scope.Order.{How, Defines}
 use Rattle.bqn_syntax.specs.scope.Scope.{name_of, same_name, system_names}
 use Rattle.bqn_syntax.specs.scope.Bodies.{Resolution}
+use Rattle.bqn_syntax.specs.text.Fitting.{KindFits}
 use Rattle.bqn_code.specs.declared.constant.Const.{Const}
 use Rattle.bqn_code.specs.declared.constant.Const.TheVariants as const
 use Rattle.bqn_code.specs.declared.instr.Instr.{Instr}
@@ -23,7 +24,6 @@ use Rattle.bqn_code.specs.Conditions.{leaves, instr_constant_is_there, instr_nam
 use Rattle.bqn_compile.specs.declared.count.Count.{Count}
 use Rattle.bqn_compile.specs.Pools.{constant_of, constant_number, seen_at}
 use Rattle.bqn_compile.specs.Gathering.{Gathered}
-use Rattle.bqn_compile.specs.Sources.{KindFits}
 use Rattle.bqn_compile.specs.Expressions.{Setting, special_instr, system_instr, leaf_instr, fields_code}
 use Rattle.bqn_compile.specs.Translation.{setting, translation}
 use Rattle.bqn_compile.proofs.verified.Tests.{both_true}

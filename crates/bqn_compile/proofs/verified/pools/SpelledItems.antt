@@ -11,6 +11,7 @@ use Rattle.bqn_syntax.specs.scope.Order.{How, Reads, Defines, Changes, by_arrow}
 use Rattle.bqn_syntax.specs.blocks.Counting.{how_many}
 use Rattle.bqn_syntax.specs.grammar.Classes.{is_predicate}
 use Rattle.bqn_syntax.specs.grammar.Spells.{Sign, Exact, Mark, Apart, Gap, Fits, done, exact, mark, apart, one_more, no_more, arrow_code, mark_at, pattern_signs, listed_signs, listed_more, joined_signs, joined_more, token_signs, argument_signs, header_signs, target_signs, name_signs, expr_signs, part_signs, maybe_signs, steps_signs, step_signs, derived_signs, uses_signs, use_signs, deriveds_signs, exprs_signs, exprs_more, parts_signs, parts_more, stmt_signs, stmts_signs, body_signs, bodies_signs, bodies_more, block_signs}
+use Rattle.bqn_compile.specs.Items.{AllTokens, PatternTokens, PatternsTokens}
 use Rattle.bqn_compile.proofs.verified.pools.Items.{Item, Alone, Fields, Taken, Opened, Shown, EveryItem, operand_items, named_items, argument_items, header_items, targets_items, target_item, expr_items, part_items, block_items, maybe_items, steps_items, step_items, derived_items, uses_items, use_items, deriveds_items, exprs_items, parts_items, stmts_items, stmt_items, bodies_items, body_items}
 use Rattle.bqn_compile.proofs.verified.pools.WellItems.{every-append}
 
@@ -78,28 +79,12 @@ module _ (P : Token → Type 0) where
   exacts_hold _ _ (one_more e f) h = exacts_hold _ _ f (λ k d l. h (suc k) d (omega arith))
   exacts_hold _ _ (no_more f) h = exacts_hold _ _ f h
 
-  abbrev mutual
-    pub PatternTokens : Pattern → Type 0
-    PatternTokens (Name t) = P t
-    PatternTokens (Skip place) = Unit {0}
-    PatternTokens (Literal t) = P t
-    PatternTokens (ListPattern qs) = PatternsTokens qs
-    PatternTokens (StrandPattern qs) = PatternsTokens qs
-
-    pub PatternsTokens : Patterns → Type 0
-    PatternsTokens no_patterns = Unit {0}
-    PatternsTokens (and_patterns q qs) = PatternTokens q × PatternsTokens qs
-
-  abbrev pub AllTokens : List Token → Type 0
-  AllTokens [] = Unit {0}
-  AllTokens (t ∷ ts) = P t × AllTokens ts
-
   abbrev pub ItemTokens : Item → Type 0
   ItemTokens (Alone how t) = P t
-  ItemTokens (Fields ts) = AllTokens ts
-  ItemTokens (Taken l how q) = PatternTokens q
+  ItemTokens (Fields ts) = AllTokens P ts
+  ItemTokens (Taken l how q) = PatternTokens P q
   ItemTokens (Opened place n) = Unit {0}
-  ItemTokens (Shown q) = PatternTokens q
+  ItemTokens (Shown q) = PatternTokens P q
 
   -- what the signs in front of these give, and how many there are
   pub record Front (T : Type 0) (n : ℕ) (k signs : List Sign) : Type 0 where
@@ -131,7 +116,7 @@ module _ (P : Token → Type 0) where
   -- ---- patterns
 
   mutual
-    pub pattern_spelled : (q : Pattern) (k : List Sign) → Front (PatternTokens q) (pattern_size q) k (pattern_signs q k)
+    pub pattern_spelled : (q : Pattern) (k : List Sign) → Front (PatternTokens P q) (pattern_size q) k (pattern_signs q k)
     pattern_spelled (Name t) k = record { tokens = λ h. h; sizes = omega arith }
     pattern_spelled (Skip place) k = record { tokens = λ h. (tt, h.1); sizes = omega arith }
     pattern_spelled (Literal t) k = record { tokens = λ h. h; sizes = omega arith }
@@ -140,21 +125,21 @@ module _ (P : Token → Type 0) where
         record { tokens = λ h. a.tokens h; sizes = omega (arith, a.sizes) }
     pattern_spelled (StrandPattern qs) k = joined_spelled qs k
 
-    listed_spelled : (qs : Patterns) (k : List Sign) → Front (PatternsTokens qs) (patterns_size qs) k (listed_signs qs k)
+    listed_spelled : (qs : Patterns) (k : List Sign) → Front (PatternsTokens P qs) (patterns_size qs) k (listed_signs qs k)
     listed_spelled no_patterns k = record { tokens = λ h. (tt, h); sizes = omega arith }
     listed_spelled (and_patterns q qs) k = through _ _ _ _ k (listed_more qs k) _ (pattern_spelled q (listed_more qs k)) (listed_more_spelled qs k)
 
-    listed_more_spelled : (qs : Patterns) (k : List Sign) → Front (PatternsTokens qs) (more_size qs) k (listed_more qs k)
+    listed_more_spelled : (qs : Patterns) (k : List Sign) → Front (PatternsTokens P qs) (more_size qs) k (listed_more qs k)
     listed_more_spelled no_patterns k = record { tokens = λ h. (tt, h); sizes = omega arith }
     listed_more_spelled (and_patterns q qs) k =
         let a = through _ _ _ _ k (listed_more qs k) _ (pattern_spelled q (listed_more qs k)) (listed_more_spelled qs k) in
         record { tokens = λ h. a.tokens h; sizes = omega (arith, a.sizes) }
 
-    joined_spelled : (qs : Patterns) (k : List Sign) → Front (PatternsTokens qs) (patterns_size qs) k (joined_signs qs k)
+    joined_spelled : (qs : Patterns) (k : List Sign) → Front (PatternsTokens P qs) (patterns_size qs) k (joined_signs qs k)
     joined_spelled no_patterns k = record { tokens = λ h. (tt, h); sizes = omega arith }
     joined_spelled (and_patterns q qs) k = through _ _ _ _ k (joined_more qs k) _ (pattern_spelled q (joined_more qs k)) (joined_more_spelled qs k)
 
-    joined_more_spelled : (qs : Patterns) (k : List Sign) → Front (PatternsTokens qs) (more_size qs) k (joined_more qs k)
+    joined_more_spelled : (qs : Patterns) (k : List Sign) → Front (PatternsTokens P qs) (more_size qs) k (joined_more qs k)
     joined_more_spelled no_patterns k = record { tokens = λ h. (tt, h); sizes = omega arith }
     joined_more_spelled (and_patterns q qs) k =
         let a = through _ _ _ _ k (joined_more qs k) _ (pattern_spelled q (joined_more qs k)) (joined_more_spelled qs k) in
@@ -182,7 +167,7 @@ module _ (P : Token → Type 0) where
   gives_shown : (q : Pattern) (k : List Sign) → Gives (Shown q ∷ []) k (pattern_signs q k)
   gives_shown q k = let a = pattern_spelled q k in record { tokens = λ h. let x = a.tokens h in ((x.0, tt), x.1); sizes = omega (arith, a.sizes) }
 
-  fields_spelled : (ts : List Token) (k : List Sign) → Front (AllTokens ts) (length ts) k (name_signs ts k)
+  fields_spelled : (ts : List Token) (k : List Sign) → Front (AllTokens P ts) (length ts) k (name_signs ts k)
   fields_spelled [] k = record { tokens = λ h. (tt, h); sizes = omega arith }
   fields_spelled (t ∷ ts) k = let a = fields_spelled ts k in record { tokens = λ h. let x = a.tokens h.1 in ((h.0, x.0), x.1); sizes = omega (arith, a.sizes) }
 
