@@ -1,6 +1,7 @@
 -- The conditions on verified code, each by itself: this project's own.
 use Rattle.std.specs.Prelude.{ℕ, zero, suc, ◌+◌, ◌^◌, max, nat_eq, nat_le, nat_lt, Bool, true, false, not, ◌&&◌, List, [], ◌∷◌, length, slice_get, Option, Some, None}
 use Rattle.std.specs.List.{list_all, list_any}
+pub use Rattle.bqn_syntax.specs.text.Fitting.{begins_with_letter}
 use Rattle.bqn_syntax.specs.declared.tree.Class.{Class}
 use Rattle.bqn_syntax.specs.declared.tree.Class.TheVariants as class
 use Rattle.bqn_syntax.specs.grammar.Classes.{waits}
@@ -144,10 +145,6 @@ is_given_code i = true
 
 abbrev pub given_values_are_there : Code → Bool
 given_values_are_there code = every_instr (λ body i. is_given_code i) code
-
-abbrev pub begins_with_letter : List ℕ → Bool
-begins_with_letter [] = false
-begins_with_letter (c ∷ cs) = nat_le 97 c && nat_le c 122
 
 abbrev pub names_begin_with_letters : Code → Bool
 names_begin_with_letters code = list_all begins_with_letter code.names

@@ -33,7 +33,8 @@ argument_items (Some q) = Taken true Defines q ∷ []
 
 abbrev pub header_items : Option Header → List Item
 header_items None = []
-header_items (Some h) = argument_items h.left ++ (operand_items h.left_operand ++ Alone Defines h.own ∷ (operand_items h.right_operand ++ argument_items h.right))
+header_items (Some h) =
+    argument_items h.left ++ (operand_items h.left_operand ++ Alone Defines h.own ∷ (operand_items h.right_operand ++ argument_items h.right))
 
 abbrev pub targets_items : List (Token × Arrow) → List Item
 targets_items [] = []

@@ -7,7 +7,6 @@ use Rattle.bqn_syntax.specs.grammar.Trees.{Stmts, BodyTree, body}
 use Rattle.bqn_syntax.specs.grammar.Trees as tree
 use Rattle.bqn_syntax.specs.scope.Order.{How}
 use Rattle.bqn_syntax.specs.scope.Bodies.{Resolution}
-use Rattle.bqn_syntax.specs.text.Fitting as fit
 use Rattle.bqn_code.specs.declared.instr.Instr.{Instr}
 use Rattle.bqn_code.specs.Plain.{Pattern, Code}
 use Rattle.bqn_code.specs.Standing.{every_body, every_instr}
@@ -71,10 +70,6 @@ module _ (ss : Stmts) (r : Resolution) (pools : Gathered) (s : SourcePools r.use
       found c (Opened place n) f = tt
       found c (Shown q) f = tt
 
-  letter_first : (name : List ℕ) → fit.begins_with_letter name ≡ true → begins_with_letter name ≡ true
-  letter_first [] h = h
-  letter_first (c ∷ cs) h = h
-
   few : (n : ℕ) → n ≤ 2 ^ 28 → is_few n ≡ true
   few n h = lt-ltb n (2 ^ 32) (omega arith)
 
@@ -91,7 +86,7 @@ module _ (ss : Stmts) (r : Resolution) (pools : Gathered) (s : SourcePools r.use
         (exports_are exports));
     patterns = every_passes (instr_pattern_is_there code) (tests.patterns_tested r pools ss);
     given_values = every_passes is_given_code (tests.given_tested r pools ss);
-    letters = s.passes begins_with_letter (λ name h l. letter_first name h);
+    letters = s.passes begins_with_letter (λ name h l. h);
     literals = every_passes (binds_no_literal code) (tests.literals_tested r pools ss);
     flat_patterns = patterns_pass (λ p. nat_le (nesting p) 257) flat;
     few_constants = both_true _ _ (le-leb (length pools.constants) 65535 s.few_constants) s.texts;
