@@ -227,14 +227,14 @@ module _ {K : Type 0} (written : K → Option (List ℕ)) (room faults : K → �
     meets-answer t file answer old_files new_files old new (Err halted.Memory) f i g = record {
       answer = tt;
       prefix = prefix-part (Answers (task_command t file) (told old_files)) answer old new (command-answers t file (told old_files) answer f) g;
-      causes = cause-memory t _ _ file;
+      causes = cause-memory t (λ f. Rose (file_faults old_files f) (file_faults new_files f)) (Rose (faults old) (faults new)) file;
       completeness = λ s fits. tt;
       files = leaves t file old_files new_files;
     }
     meets-answer t file answer old_files new_files old new (Err halted.WriteFault) f i g = record {
       answer = tt;
       prefix = prefix-breaks (Answers (task_command t file) (told old_files)) answer old new (command-answers t file (told old_files) answer f) g;
-      causes = cause-write t _ _ file g.rose;
+      causes = cause-write t (λ f. Rose (file_faults old_files f) (file_faults new_files f)) (Rose (faults old) (faults new)) file g.rose;
       completeness = λ s fits. no_room-fits (task_answer t) (told old_files file) answer old new f g (file-fits t file (told old_files) (room old) fits);
       files = leaves t file old_files new_files;
     }
@@ -262,7 +262,7 @@ module _ {K : Type 0} (written : K → Option (List ℕ)) (room faults : K → �
     meets-failed t file old_files new_files old rose steady = record {
       answer = tt;
       prefix = nothing-written t file old_files old;
-      causes = cause-read t (λ f. Rose (file_faults old_files f) (file_faults new_files f)) _ file rose;
+      causes = cause-read t (λ f. Rose (file_faults old_files f) (file_faults new_files f)) (Rose (faults old) (faults old)) file rose;
       completeness = λ s fits. steady s (fits-kept (task_answer t) (told old_files file) (room old) (file-fits t file (told old_files) (room old) fits));
       files = leaves t file old_files new_files;
     }
@@ -272,7 +272,7 @@ module _ {K : Type 0} (written : K → Option (List ℕ)) (room faults : K → �
     meets-wanting t file old_files new_files old = record {
       answer = tt;
       prefix = nothing-written t file old_files old;
-      causes = cause-memory t _ _ file;
+      causes = cause-memory t (λ f. Rose (file_faults old_files f) (file_faults new_files f)) (Rose (faults old) (faults old)) file;
       completeness = λ s fits. tt;
       files = leaves t file old_files new_files;
     }
