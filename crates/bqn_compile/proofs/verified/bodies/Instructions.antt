@@ -79,13 +79,13 @@ module _ (test : Instr → Bool) (common : (x : Instr) → is_common x ≡ true 
   store_common arrow.Export at = refl
   store_common arrow.Change at = refl
 
-  modifier_passes : (r : Role) → SeenPass test (seen.in_kind (kind.Special special.Modifier r)) → test i.Modifier ≡ true
+  modifier_passes : (r : Role) → SeenPass test (seen.seen_in_kind (kind.Special special.Modifier r)) → test i.Modifier ≡ true
   modifier_passes role.Subject h = (h.one refl).1
   modifier_passes role.Function h = (h.one refl).1
   modifier_passes role.Mod1 h = h.one_self refl
   modifier_passes role.Mod2 h = (h.two refl).1
 
-  special_passes : (s : Special) (r : Role) → SeenPass test (seen.in_kind (kind.Special s r)) → test (special_instr s) ≡ true
+  special_passes : (s : Special) (r : Role) → SeenPass test (seen.seen_in_kind (kind.Special s r)) → test (special_instr s) ≡ true
   special_passes special.Left r h = (h.args refl).0
   special_passes special.Right r h = (h.args refl).1
   special_passes special.Own r h = (h.args refl).2
@@ -97,7 +97,7 @@ module _ (test : Instr → Bool) (common : (x : Instr) → is_common x ≡ true 
   system_common None = refl
   system_common (Some n) = refl
 
-  leaf_passes : (g : Setting) (k : ℕ) (x : Kind) → SeenPass test (seen.in_kind x) → test (leaf_instr g k x) ≡ true
+  leaf_passes : (g : Setting) (k : ℕ) (x : Kind) → SeenPass test (seen.seen_in_kind x) → test (leaf_instr g k x) ≡ true
   leaf_passes g k (kind.Word name r) h = common (leaf_instr g k (kind.Word name r)) refl
   leaf_passes g k (kind.Special s r) h = special_passes s r h
   leaf_passes g k (kind.System name r) h = common (leaf_instr g k (kind.System name r)) (system_common (position (λ other. same_name other name) system_names))
@@ -152,23 +152,23 @@ module _ (test : Instr → Bool) (common : (x : Instr) → is_common x ≡ true 
 
   module _ (g : Setting) where
     mutual
-      pub expr_passes : (c : Count) (e : Expr) → SeenPass test (seen.in_expr e) → Passes test (expr_code g c e)
+      pub expr_passes : (c : Count) (e : Expr) → SeenPass test (seen.seen_in_expr e) → Passes test (expr_code g c e)
       expr_passes c (Value none (and_steps (Modify t d) ss)) h =
-          let k : SeenPass test (seen.in_steps (and_steps (Modify t d) ss)) = pass_right test (seen.in_maybe none) (seen.in_steps (and_steps (Modify t d) ss)) h in
+          let k : SeenPass test (seen.seen_in_steps (and_steps (Modify t d) ss)) = pass_right test (seen.seen_in_maybe none) (seen.seen_in_steps (and_steps (Modify t d) ss)) h in
           and_then (load _) refl
-          (then_all (derived_passes _ d (pass_left test (seen.in_derived d) (seen.in_steps ss) k))
-          (and_then i.Call1 refl (and_then (store arrow.Change _) refl (steps_pass c ss (pass_right test (seen.in_derived d) (seen.in_steps ss) k)))))
-      expr_passes c (Value none (and_steps (Apply d left) ss)) h = and_then i.Nothing refl (steps_pass c (and_steps (Apply d left) ss) (pass_right test (seen.in_maybe none) (seen.in_steps (and_steps (Apply d left) ss)) h))
-      expr_passes c (Value none (and_steps (Assign q a) ss)) h = and_then i.Nothing refl (steps_pass c (and_steps (Assign q a) ss) (pass_right test (seen.in_maybe none) (seen.in_steps (and_steps (Assign q a) ss)) h))
+          (then_all (derived_passes _ d (pass_left test (seen.seen_in_derived d) (seen.seen_in_steps ss) k))
+          (and_then i.Call1 refl (and_then (store arrow.Change _) refl (steps_pass c ss (pass_right test (seen.seen_in_derived d) (seen.seen_in_steps ss) k)))))
+      expr_passes c (Value none (and_steps (Apply d left) ss)) h = and_then i.Nothing refl (steps_pass c (and_steps (Apply d left) ss) (pass_right test (seen.seen_in_maybe none) (seen.seen_in_steps (and_steps (Apply d left) ss)) h))
+      expr_passes c (Value none (and_steps (Assign q a) ss)) h = and_then i.Nothing refl (steps_pass c (and_steps (Assign q a) ss) (pass_right test (seen.seen_in_maybe none) (seen.seen_in_steps (and_steps (Assign q a) ss)) h))
       expr_passes c (Value none no_steps) h = one i.Nothing refl
-      expr_passes c (Value (some x) ss) h = then_all (part_passes _ x (pass_left test (seen.in_part x) (seen.in_steps ss) h)) (steps_pass c ss (pass_right test (seen.in_part x) (seen.in_steps ss) h))
+      expr_passes c (Value (some x) ss) h = then_all (part_passes _ x (pass_left test (seen.seen_in_part x) (seen.seen_in_steps ss) h)) (steps_pass c ss (pass_right test (seen.seen_in_part x) (seen.seen_in_steps ss) h))
       expr_passes c (Train targets ds) h =
           then_all
           (then_all (deriveds_pass (past c (in_targets targets)) ds h) (atop_passes (parts_read ds)))
           (targets_pass g c targets)
       expr_passes c (Modifier targets x) h = then_all (part_passes (past c (in_targets targets)) x h) (targets_pass g c targets)
 
-      part_passes : (c : Count) (x : Part) → SeenPass test (seen.in_part x) → Passes test (part_code g c x)
+      part_passes : (c : Count) (x : Part) → SeenPass test (seen.seen_in_part x) → Passes test (part_code g c x)
       part_passes c (Leaf t) h = lone (leaf_instr g c.uses t.kind) (leaf_passes g c.uses t.kind h) none_all
       part_passes c (Elements es) h = then_all (exprs_pass c es h) (one (i.List (how_many_exprs es)) refl)
       part_passes c (Merge es) h = then_all (exprs_pass c es h) (and_then (i.List (how_many_exprs es)) refl (and_then (i.Given 13) refl (one i.Call1 refl)))
@@ -178,47 +178,47 @@ module _ (test : Instr → Bool) (common : (x : Instr) → is_common x ≡ true 
       part_passes c (Strand ps) h = then_all (parts_pass c ps h) (one (i.List (how_many_parts ps)) refl)
       part_passes c (Nothing place) h = one i.Nothing refl
 
-      steps_pass : (c : Count) (ss : Steps) → SeenPass test (seen.in_steps ss) → Passes test (steps_code g c ss)
+      steps_pass : (c : Count) (ss : Steps) → SeenPass test (seen.seen_in_steps ss) → Passes test (steps_code g c ss)
       steps_pass c no_steps h = none_all
-      steps_pass c (and_steps s ss) h = then_all (step_passes _ s (pass_left test (seen.in_step s) (seen.in_steps ss) h)) (steps_pass c ss (pass_right test (seen.in_step s) (seen.in_steps ss) h))
+      steps_pass c (and_steps s ss) h = then_all (step_passes _ s (pass_left test (seen.seen_in_step s) (seen.seen_in_steps ss) h)) (steps_pass c ss (pass_right test (seen.seen_in_step s) (seen.seen_in_steps ss) h))
 
-      step_passes : (c : Count) (s : Step) → SeenPass test (seen.in_step s) → Passes test (step_code g c s)
-      step_passes c (Apply d none) h = then_all (derived_passes c d (pass_left test (seen.in_derived d) (seen.in_maybe none) h)) (one i.Call1 refl)
+      step_passes : (c : Count) (s : Step) → SeenPass test (seen.seen_in_step s) → Passes test (step_code g c s)
+      step_passes c (Apply d none) h = then_all (derived_passes c d (pass_left test (seen.seen_in_derived d) (seen.seen_in_maybe none) h)) (one i.Call1 refl)
       step_passes c (Apply d (some w)) h =
           then_all
-          (then_all (derived_passes _ d (pass_left test (seen.in_derived d) (seen.in_part w) h)) (part_passes c w (pass_right test (seen.in_derived d) (seen.in_part w) h)))
+          (then_all (derived_passes _ d (pass_left test (seen.seen_in_derived d) (seen.seen_in_part w) h)) (part_passes c w (pass_right test (seen.seen_in_derived d) (seen.seen_in_part w) h)))
           (one i.Call2 refl)
       step_passes c (Assign q a) h = one (target_instr g c q a) (target_common g c q a)
       step_passes c (Modify t d) h = then_all (derived_passes _ d h) (and_then (load _) refl (and_then i.Call2 refl (one (store arrow.Change _) refl)))
 
-      derived_passes : (c : Count) (d : Derived) → SeenPass test (seen.in_derived d) → Passes test (derived_code g c d)
+      derived_passes : (c : Count) (d : Derived) → SeenPass test (seen.seen_in_derived d) → Passes test (derived_code g c d)
       derived_passes c (derived x us) h =
           then_all
-          (then_all (uses_pass _ us (pass_right test (seen.in_part x) (seen.in_uses us) h)) (part_passes c x (pass_left test (seen.in_part x) (seen.in_uses us) h)))
+          (then_all (uses_pass _ us (pass_right test (seen.seen_in_part x) (seen.seen_in_uses us) h)) (part_passes c x (pass_left test (seen.seen_in_part x) (seen.seen_in_uses us) h)))
           (derives_pass us)
 
-      uses_pass : (c : Count) (us : Uses) → SeenPass test (seen.in_uses us) → Passes test (uses_code g c us)
+      uses_pass : (c : Count) (us : Uses) → SeenPass test (seen.seen_in_uses us) → Passes test (uses_code g c us)
       uses_pass c no_uses h = none_all
-      uses_pass c (and_uses u us) h = then_all (uses_pass _ us (pass_right test (seen.in_use u) (seen.in_uses us) h)) (use_passes c u (pass_left test (seen.in_use u) (seen.in_uses us) h))
+      uses_pass c (and_uses u us) h = then_all (uses_pass _ us (pass_right test (seen.seen_in_use u) (seen.seen_in_uses us) h)) (use_passes c u (pass_left test (seen.seen_in_use u) (seen.seen_in_uses us) h))
 
-      use_passes : (c : Count) (u : Use) → SeenPass test (seen.in_use u) → Passes test (use_code g c u)
+      use_passes : (c : Count) (u : Use) → SeenPass test (seen.seen_in_use u) → Passes test (use_code g c u)
       use_passes c (One m) h = part_passes c m h
-      use_passes c (Two m x) h = then_all (part_passes _ x (pass_right test (seen.in_part m) (seen.in_part x) h)) (part_passes c m (pass_left test (seen.in_part m) (seen.in_part x) h))
+      use_passes c (Two m x) h = then_all (part_passes _ x (pass_right test (seen.seen_in_part m) (seen.seen_in_part x) h)) (part_passes c m (pass_left test (seen.seen_in_part m) (seen.seen_in_part x) h))
 
-      deriveds_pass : (c : Count) (ds : Deriveds) → SeenPass test (seen.in_deriveds ds) → Passes test (deriveds_code g c ds)
+      deriveds_pass : (c : Count) (ds : Deriveds) → SeenPass test (seen.seen_in_deriveds ds) → Passes test (deriveds_code g c ds)
       deriveds_pass c no_deriveds h = none_all
       deriveds_pass c (and_deriveds d ds) h =
           then_all
-          (then_all (deriveds_pass _ ds (pass_right test (seen.in_derived d) (seen.in_deriveds ds) h)) (derived_passes c d (pass_left test (seen.in_derived d) (seen.in_deriveds ds) h)))
+          (then_all (deriveds_pass _ ds (pass_right test (seen.seen_in_derived d) (seen.seen_in_deriveds ds) h)) (derived_passes c d (pass_left test (seen.seen_in_derived d) (seen.seen_in_deriveds ds) h)))
           (fork_passes (parts_read ds))
 
-      exprs_pass : (c : Count) (es : Exprs) → SeenPass test (seen.in_exprs es) → Passes test (exprs_code g c es)
+      exprs_pass : (c : Count) (es : Exprs) → SeenPass test (seen.seen_in_exprs es) → Passes test (exprs_code g c es)
       exprs_pass c no_exprs h = none_all
-      exprs_pass c (and_exprs e es) h = then_all (expr_passes c e (pass_left test (seen.in_expr e) (seen.in_exprs es) h)) (exprs_pass _ es (pass_right test (seen.in_expr e) (seen.in_exprs es) h))
+      exprs_pass c (and_exprs e es) h = then_all (expr_passes c e (pass_left test (seen.seen_in_expr e) (seen.seen_in_exprs es) h)) (exprs_pass _ es (pass_right test (seen.seen_in_expr e) (seen.seen_in_exprs es) h))
 
-      parts_pass : (c : Count) (xs : Parts) → SeenPass test (seen.in_parts xs) → Passes test (parts_code g c xs)
+      parts_pass : (c : Count) (xs : Parts) → SeenPass test (seen.seen_in_parts xs) → Passes test (parts_code g c xs)
       parts_pass c no_parts h = none_all
-      parts_pass c (and_parts x xs) h = then_all (part_passes c x (pass_left test (seen.in_part x) (seen.in_parts xs) h)) (parts_pass _ xs (pass_right test (seen.in_part x) (seen.in_parts xs) h))
+      parts_pass c (and_parts x xs) h = then_all (part_passes c x (pass_left test (seen.seen_in_part x) (seen.seen_in_parts xs) h)) (parts_pass _ xs (pass_right test (seen.seen_in_part x) (seen.seen_in_parts xs) h))
 
     -- ---- statements
 
@@ -230,13 +230,13 @@ module _ (test : Instr → Bool) (common : (x : Instr) → is_common x ≡ true 
     last_passes true = and_then i.Pop refl (one i.Space refl)
     last_passes false = one i.Return refl
 
-    pub stmts_pass : (exports : Bool) (c : Count) (ss : Stmts) → SeenPass test (seen.in_stmts ss) → (has_predicate ss ≡ true → test i.Check ≡ true) → Passes test (stmts_code g exports c ss)
+    pub stmts_pass : (exports : Bool) (c : Count) (ss : Stmts) → SeenPass test (seen.seen_in_stmts ss) → (has_predicate ss ≡ true → test i.Check ≡ true) → Passes test (stmts_code g exports c ss)
     stmts_pass exports c no_stmts h check = end_passes exports
-    stmts_pass exports c (and_stmts (Eval e) no_stmts) h check = then_all (expr_passes c e (pass_left test (seen.in_expr e) seen.nothing h)) (last_passes exports)
+    stmts_pass exports c (and_stmts (Eval e) no_stmts) h check = then_all (expr_passes c e (pass_left test (seen.seen_in_expr e) seen.nothing h)) (last_passes exports)
     stmts_pass exports c (and_stmts (Eval e) (and_stmts s ss)) h check =
-        then_all (expr_passes c e (pass_left test (seen.in_expr e) (seen.in_stmts (and_stmts s ss)) h))
-        (and_then i.Pop refl (stmts_pass exports (past c (in_stmt (Eval e))) (and_stmts s ss) (pass_right test (seen.in_expr e) (seen.in_stmts (and_stmts s ss)) h) check))
+        then_all (expr_passes c e (pass_left test (seen.seen_in_expr e) (seen.seen_in_stmts (and_stmts s ss)) h))
+        (and_then i.Pop refl (stmts_pass exports (past c (in_stmt (Eval e))) (and_stmts s ss) (pass_right test (seen.seen_in_expr e) (seen.seen_in_stmts (and_stmts s ss)) h) check))
     stmts_pass exports c (and_stmts (Predicate e) ss) h check =
-        then_all (expr_passes c e (pass_left test (seen.in_expr e) (seen.in_stmts ss) h))
-        (lone i.Check (check refl) (stmts_pass exports (past c (in_stmt (Predicate e))) ss (pass_right test (seen.in_expr e) (seen.in_stmts ss) h) (λ p. check refl)))
-    stmts_pass exports c (and_stmts (Export q) ss) h check = stmts_pass exports c ss (pass_right test seen.nothing (seen.in_stmts ss) h) check
+        then_all (expr_passes c e (pass_left test (seen.seen_in_expr e) (seen.seen_in_stmts ss) h))
+        (lone i.Check (check refl) (stmts_pass exports (past c (in_stmt (Predicate e))) ss (pass_right test (seen.seen_in_expr e) (seen.seen_in_stmts ss) h) (λ p. check refl)))
+    stmts_pass exports c (and_stmts (Export q) ss) h check = stmts_pass exports c ss (pass_right test seen.nothing (seen.seen_in_stmts ss) h) check

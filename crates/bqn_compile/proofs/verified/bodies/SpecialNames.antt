@@ -48,7 +48,7 @@ module _ (scopes : List Scope) (outside : stands_in_block scopes ≡ false) (u :
       by true p q = absurd (true≢false p)
       by false p q = no_error q
 
-  leaf_clear : (how : How) (x : Kind) (t : Token) (k : Mentions) → Goes (leaf_mention how x t k) → Clear (seen.in_kind x) k
+  leaf_clear : (how : How) (x : Kind) (t : Token) (k : Mentions) → Goes (leaf_mention how x t k) → Clear (seen.seen_in_kind x) k
   leaf_clear how (kind.Word name r) t k h = record { free = refl; rest = behind (Named how t) k h }
   leaf_clear how (kind.System name r) t k h = record { free = refl; rest = behind (System t) k h }
   leaf_clear how (kind.Special s r) t k h = no_special t k h
@@ -78,15 +78,15 @@ module _ (scopes : List Scope) (outside : stands_in_block scopes ≡ false) (u :
   targets_go (t ∷ ts) k h = targets_go ts k (leaf_goes (by_arrow t.1) t.0.kind t.0 (target_mentions ts k) h)
 
   mutual
-    expr_clear : (e : Expr) (k : Mentions) → Goes (expr_mentions e k) → Clear (seen.in_expr e) k
+    expr_clear : (e : Expr) (k : Mentions) → Goes (expr_mentions e k) → Clear (seen.seen_in_expr e) k
     expr_clear (Value last ss) k h =
-        let first : Clear (seen.in_steps ss) (maybe_mentions last k) = steps_clear ss (maybe_mentions last k) h in
-        let next : Clear (seen.in_maybe last) k = maybe_clear last k first.rest in
-        record { free = both (seen.in_maybe last) (seen.in_steps ss) next.free first.free; rest = next.rest }
+        let first : Clear (seen.seen_in_steps ss) (maybe_mentions last k) = steps_clear ss (maybe_mentions last k) h in
+        let next : Clear (seen.seen_in_maybe last) k = maybe_clear last k first.rest in
+        record { free = both (seen.seen_in_maybe last) (seen.seen_in_steps ss) next.free first.free; rest = next.rest }
     expr_clear (Train targets ds) k h = deriveds_clear ds k (targets_go targets (deriveds_mentions ds k) h)
     expr_clear (Modifier targets x) k h = part_clear x k (targets_go targets (part_mentions x k) h)
 
-    part_clear : (x : Part) (k : Mentions) → Goes (part_mentions x k) → Clear (seen.in_part x) k
+    part_clear : (x : Part) (k : Mentions) → Goes (part_mentions x k) → Clear (seen.seen_in_part x) k
     part_clear (Leaf t) k h = leaf_clear Reads t.kind t k h
     part_clear (Elements es) k h = exprs_clear es k h
     part_clear (Merge es) k h = exprs_clear es k h
@@ -96,83 +96,83 @@ module _ (scopes : List Scope) (outside : stands_in_block scopes ≡ false) (u :
     part_clear (Strand ps) k h = parts_clear ps k h
     part_clear (Nothing place) k h = record { free = refl; rest = h }
 
-    maybe_clear : (x : MaybePart) (k : Mentions) → Goes (maybe_mentions x k) → Clear (seen.in_maybe x) k
+    maybe_clear : (x : MaybePart) (k : Mentions) → Goes (maybe_mentions x k) → Clear (seen.seen_in_maybe x) k
     maybe_clear none k h = record { free = refl; rest = h }
     maybe_clear (some x) k h = part_clear x k h
 
-    steps_clear : (ss : Steps) (k : Mentions) → Goes (steps_mentions ss k) → Clear (seen.in_steps ss) k
+    steps_clear : (ss : Steps) (k : Mentions) → Goes (steps_mentions ss k) → Clear (seen.seen_in_steps ss) k
     steps_clear no_steps k h = record { free = refl; rest = h }
     steps_clear (and_steps s ss) k h =
-        let first : Clear (seen.in_steps ss) (step_mentions s k) = steps_clear ss (step_mentions s k) h in
-        let next : Clear (seen.in_step s) k = step_clear s k first.rest in
-        record { free = both (seen.in_step s) (seen.in_steps ss) next.free first.free; rest = next.rest }
+        let first : Clear (seen.seen_in_steps ss) (step_mentions s k) = steps_clear ss (step_mentions s k) h in
+        let next : Clear (seen.seen_in_step s) k = step_clear s k first.rest in
+        record { free = both (seen.seen_in_step s) (seen.seen_in_steps ss) next.free first.free; rest = next.rest }
 
-    step_clear : (s : Step) (k : Mentions) → Goes (step_mentions s k) → Clear (seen.in_step s) k
+    step_clear : (s : Step) (k : Mentions) → Goes (step_mentions s k) → Clear (seen.seen_in_step s) k
     step_clear (Apply d left) k h =
-        let first : Clear (seen.in_maybe left) (derived_mentions d k) = maybe_clear left (derived_mentions d k) h in
-        let next : Clear (seen.in_derived d) k = derived_clear d k first.rest in
-        record { free = both (seen.in_derived d) (seen.in_maybe left) next.free first.free; rest = next.rest }
+        let first : Clear (seen.seen_in_maybe left) (derived_mentions d k) = maybe_clear left (derived_mentions d k) h in
+        let next : Clear (seen.seen_in_derived d) k = derived_clear d k first.rest in
+        record { free = both (seen.seen_in_derived d) (seen.seen_in_maybe left) next.free first.free; rest = next.rest }
     step_clear (Assign q a) k h = record { free = refl; rest = pattern_goes (by_arrow a) q k h }
     step_clear (Modify t d) k h = derived_clear d k (leaf_goes Changes t.kind t (derived_mentions d k) h)
 
-    derived_clear : (d : Derived) (k : Mentions) → Goes (derived_mentions d k) → Clear (seen.in_derived d) k
+    derived_clear : (d : Derived) (k : Mentions) → Goes (derived_mentions d k) → Clear (seen.seen_in_derived d) k
     derived_clear (derived x us) k h =
-        let first : Clear (seen.in_part x) (uses_mentions us k) = part_clear x (uses_mentions us k) h in
-        let next : Clear (seen.in_uses us) k = uses_clear us k first.rest in
-        record { free = both (seen.in_part x) (seen.in_uses us) first.free next.free; rest = next.rest }
+        let first : Clear (seen.seen_in_part x) (uses_mentions us k) = part_clear x (uses_mentions us k) h in
+        let next : Clear (seen.seen_in_uses us) k = uses_clear us k first.rest in
+        record { free = both (seen.seen_in_part x) (seen.seen_in_uses us) first.free next.free; rest = next.rest }
 
-    uses_clear : (us : Uses) (k : Mentions) → Goes (uses_mentions us k) → Clear (seen.in_uses us) k
+    uses_clear : (us : Uses) (k : Mentions) → Goes (uses_mentions us k) → Clear (seen.seen_in_uses us) k
     uses_clear no_uses k h = record { free = refl; rest = h }
     uses_clear (and_uses x us) k h =
-        let first : Clear (seen.in_use x) (uses_mentions us k) = use_clear x (uses_mentions us k) h in
-        let next : Clear (seen.in_uses us) k = uses_clear us k first.rest in
-        record { free = both (seen.in_use x) (seen.in_uses us) first.free next.free; rest = next.rest }
+        let first : Clear (seen.seen_in_use x) (uses_mentions us k) = use_clear x (uses_mentions us k) h in
+        let next : Clear (seen.seen_in_uses us) k = uses_clear us k first.rest in
+        record { free = both (seen.seen_in_use x) (seen.seen_in_uses us) first.free next.free; rest = next.rest }
 
-    use_clear : (x : Use) (k : Mentions) → Goes (use_mentions x k) → Clear (seen.in_use x) k
+    use_clear : (x : Use) (k : Mentions) → Goes (use_mentions x k) → Clear (seen.seen_in_use x) k
     use_clear (One m) k h = part_clear m k h
     use_clear (Two m x) k h =
-        let first : Clear (seen.in_part m) (part_mentions x k) = part_clear m (part_mentions x k) h in
-        let next : Clear (seen.in_part x) k = part_clear x k first.rest in
-        record { free = both (seen.in_part m) (seen.in_part x) first.free next.free; rest = next.rest }
+        let first : Clear (seen.seen_in_part m) (part_mentions x k) = part_clear m (part_mentions x k) h in
+        let next : Clear (seen.seen_in_part x) k = part_clear x k first.rest in
+        record { free = both (seen.seen_in_part m) (seen.seen_in_part x) first.free next.free; rest = next.rest }
 
-    deriveds_clear : (ds : Deriveds) (k : Mentions) → Goes (deriveds_mentions ds k) → Clear (seen.in_deriveds ds) k
+    deriveds_clear : (ds : Deriveds) (k : Mentions) → Goes (deriveds_mentions ds k) → Clear (seen.seen_in_deriveds ds) k
     deriveds_clear no_deriveds k h = record { free = refl; rest = h }
     deriveds_clear (and_deriveds d ds) k h =
-        let first : Clear (seen.in_derived d) (deriveds_mentions ds k) = derived_clear d (deriveds_mentions ds k) h in
-        let next : Clear (seen.in_deriveds ds) k = deriveds_clear ds k first.rest in
-        record { free = both (seen.in_derived d) (seen.in_deriveds ds) first.free next.free; rest = next.rest }
+        let first : Clear (seen.seen_in_derived d) (deriveds_mentions ds k) = derived_clear d (deriveds_mentions ds k) h in
+        let next : Clear (seen.seen_in_deriveds ds) k = deriveds_clear ds k first.rest in
+        record { free = both (seen.seen_in_derived d) (seen.seen_in_deriveds ds) first.free next.free; rest = next.rest }
 
-    exprs_clear : (es : Exprs) (k : Mentions) → Goes (exprs_mentions es k) → Clear (seen.in_exprs es) k
+    exprs_clear : (es : Exprs) (k : Mentions) → Goes (exprs_mentions es k) → Clear (seen.seen_in_exprs es) k
     exprs_clear no_exprs k h = record { free = refl; rest = h }
     exprs_clear (and_exprs e es) k h =
-        let first : Clear (seen.in_expr e) (exprs_mentions es k) = expr_clear e (exprs_mentions es k) h in
-        let next : Clear (seen.in_exprs es) k = exprs_clear es k first.rest in
-        record { free = both (seen.in_expr e) (seen.in_exprs es) first.free next.free; rest = next.rest }
+        let first : Clear (seen.seen_in_expr e) (exprs_mentions es k) = expr_clear e (exprs_mentions es k) h in
+        let next : Clear (seen.seen_in_exprs es) k = exprs_clear es k first.rest in
+        record { free = both (seen.seen_in_expr e) (seen.seen_in_exprs es) first.free next.free; rest = next.rest }
 
-    parts_clear : (xs : Parts) (k : Mentions) → Goes (parts_mentions xs k) → Clear (seen.in_parts xs) k
+    parts_clear : (xs : Parts) (k : Mentions) → Goes (parts_mentions xs k) → Clear (seen.seen_in_parts xs) k
     parts_clear no_parts k h = record { free = refl; rest = h }
     parts_clear (and_parts x xs) k h =
-        let first : Clear (seen.in_part x) (parts_mentions xs k) = part_clear x (parts_mentions xs k) h in
-        let next : Clear (seen.in_parts xs) k = parts_clear xs k first.rest in
-        record { free = both (seen.in_part x) (seen.in_parts xs) first.free next.free; rest = next.rest }
+        let first : Clear (seen.seen_in_part x) (parts_mentions xs k) = part_clear x (parts_mentions xs k) h in
+        let next : Clear (seen.seen_in_parts xs) k = parts_clear xs k first.rest in
+        record { free = both (seen.seen_in_part x) (seen.seen_in_parts xs) first.free next.free; rest = next.rest }
 
-  stmt_clear : (s : Stmt) (k : Mentions) → Goes (stmt_mentions s k) → Clear (seen.in_stmt s) k
+  stmt_clear : (s : Stmt) (k : Mentions) → Goes (stmt_mentions s k) → Clear (seen.seen_in_stmt s) k
   stmt_clear (Eval e) k h = expr_clear e k h
   stmt_clear (Predicate e) k h = expr_clear e k h
   stmt_clear (Export q) k h = record { free = refl; rest = pattern_goes Shows q k h }
 
-  stmts_clear : (ss : Stmts) (k : Mentions) → Goes (stmts_mentions ss k) → Clear (seen.in_stmts ss) k
+  stmts_clear : (ss : Stmts) (k : Mentions) → Goes (stmts_mentions ss k) → Clear (seen.seen_in_stmts ss) k
   stmts_clear no_stmts k h = record { free = refl; rest = h }
   stmts_clear (and_stmts s ss) k h =
-      let first : Clear (seen.in_stmt s) (stmts_mentions ss k) = stmt_clear s (stmts_mentions ss k) h in
-      let next : Clear (seen.in_stmts ss) k = stmts_clear ss k first.rest in
-      record { free = both (seen.in_stmt s) (seen.in_stmts ss) first.free next.free; rest = next.rest }
+      let first : Clear (seen.seen_in_stmt s) (stmts_mentions ss k) = stmt_clear s (stmts_mentions ss k) h in
+      let next : Clear (seen.seen_in_stmts ss) k = stmts_clear ss k first.rest in
+      record { free = both (seen.seen_in_stmt s) (seen.seen_in_stmts ss) first.free next.free; rest = next.rest }
 
 uses_there : (bodies : List BodyNames) (o : Result (List scope.Use) Refusal) (r : Resolution) → with_bodies bodies o ≡ Ok r → (u : List scope.Use) × (o ≡ Ok u)
 uses_there bodies (Ok u) r h = (u, refl)
 uses_there bodies (Err e) r h = no_error h
 
-pub no_special_names : (outer : List (List ℕ)) (ss : Stmts) (r : Resolution) → resolution outer ss ≡ Ok r → seen.in_stmts ss ≡ nothing
+pub no_special_names : (outer : List (List ℕ)) (ss : Stmts) (r : Resolution) → resolution outer ss ≡ Ok r → seen.seen_in_stmts ss ≡ nothing
 no_special_names outer ss r h =
     let k : Mentions = stmts_mentions ss no_mentions in
     let found : ((u : List scope.Use) × (resolved outer ss ≡ Ok u)) = uses_there (bodies_of outer ss) (resolved outer ss) r h in
