@@ -18,11 +18,11 @@ use Rattle.bqn_io.proofs.Writing.{added-nil}
 use Rattle.bqn_syntax.specs.declared.token.Token.{Token}
 use Rattle.bqn_syntax.specs.text.Text.{text_of, without_returns}
 use Rattle.bqn_syntax.specs.text.Tokens.{tokens_of_text}
-use Rattle.bqn_machine.specs.declared.function.Callee.{Callee}
-use Rattle.bqn_machine.specs.declared.raised.Raised.{Raised}
-use Rattle.bqn_machine.specs.Tree.{Part, Number, Name, Paren, Expr, Value as Alone, Apply1, Apply2, Stmt}
-use Rattle.bqn_machine.specs.Form.{form_of}
-use Rattle.bqn_machine.specs.Evaluation.{State, Res, Gives as Value, Faults, Spends, M, then_do, answered, answer_at, output_of, wrote, call, known_value, stored, eval_part, eval_expr, eval_statements, evaluated}
+use Rattle.bqn_forms.specs.declared.function.Callee.{Callee}
+use Rattle.bqn_forms.specs.declared.raised.Raised.{Raised}
+use Rattle.bqn_forms.specs.Tree.{Part, Number, Name, Paren, Expr, Value as Alone, Apply1, Apply2, Stmt}
+use Rattle.bqn_forms.specs.Form.{form_of}
+use Rattle.bqn_forms.specs.Evaluation.{State, Res, Gives as Value, Faults, Spends, M, then_do, answered, answer_at, output_of, wrote, call, known_value, stored, eval_part, eval_expr, eval_statements, evaluated}
 use Rattle.bqn_cli.specs.declared.halted.Halted.{Halted}
 use Rattle.bqn_cli.specs.declared.halted.Halted.TheVariants as halted
 use Rattle.bqn_cli.specs.declared.words.Task.{Task}

@@ -7,15 +7,15 @@ use Rattle.bqn_base.specs.declared.status.Status.{Status}
 use Rattle.bqn_base.specs.declared.status.Status.TheVariants as status
 use Rattle.bqn_io.specs.Writing.{Adds, AddsPart, Breaks}
 use Rattle.bqn_io.proofs.Writing.{adds-nothing, adds-then, adds-then-part, adds-then-breaks}
-use Rattle.bqn_machine.specs.Tree.{Stmt}
-use Rattle.bqn_machine.specs.Evaluation.{State, Gives as Value, Faults, Spends}
-use Rattle.bqn_machine.specs.declared.code.Instr.{Instr}
-use Rattle.bqn_machine.specs.declared.raised.Raised.{Raised}
-use Rattle.bqn_machine.specs.declared.end.End.TheVariants as end
-use Rattle.bqn_machine.specs.declared.error.CompileError.TheVariants as compile
-use Rattle.bqn_machine.specs.Execution.{Run, executed}
-use Rattle.bqn_machine.specs.Compiling.{Compiles}
-use Rattle.bqn_machine.specs.Running.{EndsAs}
+use Rattle.bqn_forms.specs.Tree.{Stmt}
+use Rattle.bqn_forms.specs.Evaluation.{State, Gives as Value, Faults, Spends}
+use Rattle.bqn_forms.specs.declared.code.Instr.{Instr}
+use Rattle.bqn_forms.specs.declared.raised.Raised.{Raised}
+use Rattle.bqn_forms.specs.declared.end.End.TheVariants as end
+use Rattle.bqn_forms.specs.declared.error.CompileError.TheVariants as compile
+use Rattle.bqn_forms.specs.Execution.{Run, executed}
+use Rattle.bqn_forms.specs.Compiling.{Compiles}
+use Rattle.bqn_forms.specs.Running.{EndsAs}
 use Rattle.std.specs.declared.vec.Vec.{Vec}
 use Rattle.std.specs.declared.alloc.Global.{Global}
 use Rattle.bqn_cli.specs.declared.halted.Halted.{Halted}

@@ -7,14 +7,14 @@ use Rattle.bqn_base.specs.declared.status.Status.TheVariants as status
 use Rattle.bqn_base.specs.Printed.{error_line, refusal_line, usage_line}
 use Rattle.bqn_io.specs.Devices.{Told, Untold, Missing, Kept}
 use Rattle.bqn_syntax.specs.declared.token.Token.{Token}
-use Rattle.bqn_machine.specs.Tree.{Stmt}
+use Rattle.bqn_forms.specs.Tree.{Stmt}
 use Rattle.bqn_syntax.specs.text.Tokens.{tokens_of_source}
 use Rattle.bqn_syntax.specs.grammar.Trees.{Stmts}
 use Rattle.bqn_syntax.specs.grammar.Parsing.{parsed}
 use Rattle.bqn_syntax.specs.scope.Bodies.{Resolution, resolution}
-use Rattle.bqn_machine.specs.declared.raised.Raised.{Raised}
-use Rattle.bqn_machine.specs.Form.{form_of}
-use Rattle.bqn_machine.specs.Evaluation.{Res, Gives, Faults, Spends, evaluated}
+use Rattle.bqn_forms.specs.declared.raised.Raised.{Raised}
+use Rattle.bqn_forms.specs.Form.{form_of}
+use Rattle.bqn_forms.specs.Evaluation.{Res, Gives, Faults, Spends, evaluated}
 use Rattle.bqn_compile.specs.Translation.{translated}
 use Rattle.bqn_cli.specs.Command.{Command, Run, Check, NoCommand}
 

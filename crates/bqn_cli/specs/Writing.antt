@@ -6,7 +6,7 @@ use Rattle.bqn_base.specs.declared.refusal.Refusal.TheVariants.{TooLong}
 use Rattle.bqn_io.specs.declared.files.Fetched.{Fetched}
 use Rattle.bqn_io.specs.declared.files.Fetched.TheVariants.{Whole, Longer}
 use Rattle.bqn_io.specs.Writing.{Adds, AddsPart, Breaks}
-use Rattle.bqn_machine.specs.Execution.{Run}
+use Rattle.bqn_forms.specs.Execution.{Run}
 use Rattle.bqn_cli.specs.declared.halted.Halted.{Halted}
 use Rattle.bqn_cli.specs.declared.halted.Halted.TheVariants.{Memory, WriteFault}
 use Rattle.bqn_cli.specs.Answer.{Answer, ended, refused}

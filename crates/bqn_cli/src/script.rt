@@ -2,9 +2,9 @@
 
 ghost use Rattle.std.specs.Prelude.{◌≡◌, IsSome, MatchResult};
 ghost use Rattle.bqn_io.specs.Writing.{Adds, Breaks};
-ghost use Rattle.bqn_machine.specs.Form.{form_of};
+ghost use Rattle.bqn_forms.specs.Form.{form_of};
 ghost use Rattle.bqn_syntax.specs.grammar.Trees.{tree_of};
-ghost use Rattle.bqn_machine.specs.Execution.{executed};
+ghost use Rattle.bqn_forms.specs.Execution.{executed};
 ghost use Rattle.bqn_cli.specs.Answer.{check_answer, default_steps, faulted, form_answer, refused, run_answer};
 ghost use Rattle.bqn_cli.specs.Writing.{Gives, GivesRun};
 
@@ -12,8 +12,8 @@ use crate::front::{SourceError, accepted};
 use crate::halted::Halted;
 use crate::lines::{error_line, refusal_line};
 use bqn_base::{Refusal, Status};
+use bqn_forms::{End, Instr, Raised, run_code};
 use bqn_io::{Failed, Sink};
-use bqn_machine::{End, Instr, Raised, run_code};
 use bqn_syntax::{Token, Tree};
 use std::alloc::Global;
 
@@ -82,10 +82,10 @@ fn run_form<K: Sink>(
 ) -> Result<Status, Halted>
     ensures { Gives K.written K.room K.faults (form_answer (form_of tokens.now (tree_of tree.now))) out.old out.new result }
 {
-    match bqn_machine::compile(alloc, tokens, tree) {
+    match bqn_forms::compile(alloc, tokens, tree) {
         Ok(code) => run(alloc, &code, out),
-        Err(bqn_machine::CompileError::NotYet) => refuse(alloc, Refusal::NotYet, out),
-        Err(bqn_machine::CompileError::Memory) => Err(Halted::Memory),
+        Err(bqn_forms::CompileError::NotYet) => refuse(alloc, Refusal::NotYet, out),
+        Err(bqn_forms::CompileError::Memory) => Err(Halted::Memory),
     }
 }
 

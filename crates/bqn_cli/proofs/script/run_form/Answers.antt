@@ -1,5 +1,5 @@
 -- The code of a source misses no operand.
-use Rattle.bqn_machine.specs.Form.{form_of}
+use Rattle.bqn_forms.specs.Form.{form_of}
 use Rattle.bqn_syntax.specs.grammar.Trees.{tree_of}
 use Rattle.bqn_cli.proofs.Ended.{compiles-some}
 use Rattle.bqn_cli.proofs.script.run_form.Goals as goal

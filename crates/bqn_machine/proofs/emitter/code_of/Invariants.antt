@@ -1,8 +1,0 @@
-use Rattle.std.proofs.Common.{◌≡◌, [], map, drop}
-use Rattle.bqn_syntax.specs.grammar.Trees.{stmt_of, stmts}
-use Rattle.bqn_machine.specs.Emission.{stmts_emitted}
-use Rattle.bqn_machine.specs.Reading.{spelled}
-use Rattle.bqn_machine.proofs.emitter.code_of.Given as goal
-
-abbrev pub invariant-loop-stmt : goal.invariant-loop-stmt
-invariant-loop-stmt l = stmts_emitted (spelled l.names.keys) l.code.items (stmts (map stmt_of (drop l.stmt-index l.stmts))) ≡ stmts_emitted [] [] (stmts (map stmt_of l.stmts))
