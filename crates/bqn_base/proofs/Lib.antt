@@ -1,4 +1,5 @@
 pub mod Fits
+pub mod Lists
 pub mod Scalars
 pub mod Quotients
 pub mod Roots

@@ -3,7 +3,6 @@ pub mod Accepted
 pub mod Counts
 pub mod Gathered
 pub mod Keys
-pub mod Yielded
 pub mod Walks
 pub mod Walked
 pub mod Onward

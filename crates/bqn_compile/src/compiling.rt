@@ -47,11 +47,12 @@ fn translated_code(alloc: Global, resolved: &Resolved) -> Result<Code, CompileEr
     gathering::stmts(&mut pools, uses, statements)?;
     let blocks = program_blocks(uses, &pools, resolved.bodies.list(), statements)?;
     let constants = constants(alloc, pools.constants.as_slice())?;
-    let names = pools.names.row()?;
+    let mut names = Vec::new(alloc);
+    pools.names.append_to(&mut names)?;
     let Pools { patterns, .. } = pools;
     Ok(Code {
         placed: true,
-        names,
+        names: Row::new(names),
         constants,
         patterns: Row::new(patterns),
         blocks,

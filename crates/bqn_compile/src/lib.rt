@@ -17,7 +17,6 @@ mod key;
 mod laws;
 mod leads;
 mod leaf;
-mod name_pool;
 mod parts;
 mod patterns;
 mod places;

@@ -14,7 +14,7 @@ ghost use Rattle.bqn_compile.specs.Shown.{constants_shown};
 use crate::key::Key;
 use crate::leaf::seen;
 use crate::pooling::spelling;
-use crate::pools::{Pools, constant_at};
+use crate::pools::{Pools, constant_at, name_at};
 use bqn_base::{Memory, Row};
 use bqn_code::PatternCode;
 use bqn_scope::Use;
@@ -35,7 +35,7 @@ fn stored_leaf(
     let Ok(at) = seen(uses, number) else {
         return Err(Memory);
     };
-    let Ok(name) = u32::try_from(pools.names.number(spelling(t))) else {
+    let Ok(name) = u32::try_from(name_at(&pools.names, spelling(t))) else {
         return Err(Memory);
     };
     match arrow {

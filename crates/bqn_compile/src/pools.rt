@@ -4,8 +4,8 @@ ghost use Rattle.bqn_compile.specs.Gathering.{at_start};
 ghost use Rattle.bqn_compile.specs.Shown.{constants_shown, gathered_shown, key_shown};
 
 use crate::key::Key;
-use crate::name_pool::NamePool;
 use bqn_code::PatternCode;
+use bqn_scope::Spellings;
 use indexmap::IndexSet;
 use std::alloc::Global;
 
@@ -14,7 +14,7 @@ use std::alloc::Global;
 pub struct Pools {
     pub alloc: Global,
     pub constants: IndexSet<Key>,
-    pub names: NamePool,
+    pub names: Spellings,
     pub patterns: Vec<PatternCode>,
     pub uses: u32,
     pub blocks: u32,
@@ -28,7 +28,7 @@ impl Pools {
         Pools {
             alloc,
             constants: IndexSet::new(alloc),
-            names: NamePool::new(alloc),
+            names: Spellings::new(alloc),
             patterns: Vec::new(alloc),
             uses: 0,
             blocks: 1,
@@ -37,10 +37,13 @@ impl Pools {
 }
 
 /// The number of a name in the pool; what is pooled has one.
-pub fn name_at(names: &NamePool, name: &[char]) -> usize
+pub fn name_at(names: &Spellings, name: &[char]) -> usize
     ensures { result ≡ name_number names.now name.now }
 {
-    names.number(name)
+    match names.position(name) {
+        Some(place) => place,
+        None => 0,
+    }
 }
 
 /// The place of a constant in the pool.

@@ -2,6 +2,7 @@
 use Rattle.std.proofs.Common.{◌≡◌, ℕ, zero, suc, ◌+◌, ◌-◌, ◌≤◌, ◌&&◌, List, [], ◌∷◌, length, Bool, true, false, Option, Some, None, Result, Ok, Err, IsTrue, nat_le, nat_lt, nat_eq, is_some, slice_get, refl, subst, sym, ap, arith}
 use Rattle.std.specs.List.{list_all}
 use Rattle.std.proofs.lemmas.Bool.{leb-true, eqb-true}
+pub use Rattle.bqn_base.proofs.Lists.{some_same}
 use Rattle.bqn_base.specs.declared.fault.Fault.{Fault}
 use Rattle.bqn_rows.specs.Plain.{Value, Number, Character, Array, Given, Derived, Function, Modifier1, Modifier2, Namespace, Values, none, more, count, is_given}
 use Rattle.bqn_base.specs.declared.place.Place.{Place}
@@ -41,9 +42,6 @@ no p = subst (λ b. elim b as (λ z. Type 0) [ true ↦ ⊥ | false ↦ Unit {0}
 
 pub none_some : {A : Type 0} {x : A} → None ≡ Some x → ⊥
 none_some q = no (ap is_some q)
-
-pub some_same : {A : Type 0} {x y : A} → Some x ≡ Some y → x ≡ y
-some_same {x = x} q = ap (λ o. elim o [ None ↦ x | Some z ↦ z ]) q
 
 pub and_left : (a b : Bool) → IsTrue (a && b) → IsTrue a
 and_left true b h = refl

@@ -4,7 +4,7 @@ use Rattle.bqn_syntax.specs.grammar.Trees.{Expr, Value, Train, Modifier, Use, On
 use Rattle.bqn_syntax.specs.blocks.Counting.{Count, past, in_expr, in_part, in_maybe, in_steps, in_derived, in_use, in_stmt, in_body}
 use Rattle.bqn_syntax.specs.blocks.Blocks.{Numbered, numbered, Block, and_plain, plain_in, bodies_of, block_of, opened, expr_blocks, part_blocks, blocks_from, maybe_blocks, steps_blocks, step_blocks, derived_blocks, uses_blocks, use_blocks, deriveds_blocks, exprs_blocks, parts_blocks, stmts_blocks, bodies_blocks, scopes_of, Earlier, behind, line_body, further, table_of}
 use Rattle.bqn_syntax.proofs.BlockNumbers.{Numbers, expr-numbers, part-numbers, maybe-numbers, steps-numbers, derived-numbers, use-numbers, body-numbers}
-use Rattle.bqn_meaning.proofs.Lists.{at_front, at_same, at_back}
+use Rattle.bqn_base.proofs.Lists.{at_front, at_same, at_back}
 use Rattle.bqn_meaning.specs.BlockNumbers.{ExprNumbered, PartNumbered, MaybeNumbered, StepsNumbered, StepNumbered, DerivedNumbered, UsesNumbered, UseNumbered, DerivedsNumbered, ExprsNumbered, PartsNumbered, StmtsNumbered, BlockIs, BodiesAre, EvaluationsMeetTheirBlocks}
 
 none_more : (n : ℕ) → n + 0 ≡ n

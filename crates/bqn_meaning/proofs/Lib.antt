@@ -1,4 +1,3 @@
 pub mod advancing
 mod MeaningSamples
-pub mod Lists
 pub mod BlockNumbers

@@ -36,7 +36,7 @@ pub record Frame : Type 0 where
   pub environment : ℕ
   pub block : ℕ
   pub class : Class
-  pub parent : ℕ
+  pub outer : ℕ
   pub operands : Values
   pub arguments : Arguments
 
@@ -89,10 +89,10 @@ there (Some v) = Ok (Some v)
 abbrev pub special_value : Frame → Special → Result (Option Value) Fault
 special_value f special.Left = Ok (left_of f.arguments)
 special_value f special.Right = Ok (right_of f.arguments)
-special_value f special.Own = Ok (Some (Function f.block f.parent f.operands))
+special_value f special.Own = Ok (Some (Function f.block f.outer f.operands))
 special_value f special.LeftOperand = there (left_operand f.operands)
 special_value f special.RightOperand = there (right_operand f.operands)
-special_value f special.Modifier = there (modifier_of f.class f.block f.parent)
+special_value f special.Modifier = there (modifier_of f.class f.block f.outer)
 
 -- ---- system values
 

@@ -139,7 +139,7 @@ is_for _ _ = false
 -- where a body of a block of this class is run, in its environment
 abbrev pub frame_of : Entry → Class → Body → (environment : ℕ) → Frame
 frame_of e class b n =
-    record { scopes = scopes_of b; environment = n; block = e.block; class = class; parent = e.outer; operands = e.operands; arguments = e.arguments }
+    record { scopes = scopes_of b; environment = n; block = e.block; class = class; outer = e.outer; operands = e.operands; arguments = e.arguments }
 
 module _ (h : Calling) (g : Setting) where
   -- statements behind others, the last of which has this lead and gave this; an export alone gives Nothing

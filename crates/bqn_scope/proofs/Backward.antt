@@ -1,6 +1,6 @@
--- One more before a list that is filled from its end, and what a loop from the end of a list has gone through.
-use Rattle.std.proofs.Common.{◌≡◌, List, [], ◌∷◌, ◌++◌, map, reverse, refl, ap, sym, ◌∙◌, Bor}
-use Rattle.std.proofs.lemmas.List.{reverse-append, reverse-reverse, map-append}
+-- One more before a list that is filled from its end.
+use Rattle.std.proofs.Common.{◌≡◌, List, [], ◌∷◌, ◌++◌, refl, ap, ◌∙◌}
+use Rattle.std.proofs.lemmas.List.{reverse-append}
 use Rattle.bqn_syntax.specs.grammar.Trees.{BodyTree, body}
 use Rattle.bqn_syntax.specs.scope.Mentions.{and_mentions, Scopes, and_scopes, body_scope}
 use Rattle.bqn_scope.specs.declared.mention.Event.{Event}
@@ -24,16 +24,3 @@ pub scope-more : (all : List Own) (o : Own) (b : BodyTree) → own_of o ≡ own_
 scope-more all o b e = scopes-more all o ∙ ap (λ (s : ShownOwn). and_scopes s.mentions s.order (scopes_backward all)) e ∙ own-scope b (scopes_backward all)
 
 pub ruleset backward_laws = (events-more, mentions-more, scope-more)
-
-module _ {A B : Type 0} (f : A → B) where
-  through : (xs : List (Bor A)) → map (λ x. f x.now) xs ≡ map f (map (λ x. x.now) xs)
-  through [] = refl
-  through (x ∷ xs) = ap (λ (ys : List B). f x.now ∷ ys) (through xs)
-
-map-backward : {A B : Type 0} (f : A → B) (xs : List A) → map f (reverse xs) ≡ reverse (map f xs)
-map-backward f [] = refl
-map-backward {B = B} f (x ∷ xs) = ap (map f) (reverse-append (x ∷ []) xs) ∙ map-append f (reverse xs) (x ∷ []) ∙ ap (λ (ys : List B). ys ++ f x ∷ []) (map-backward f xs) ∙ sym (reverse-append (f x ∷ []) (map f xs))
-
--- the items that a loop from the end has had, from the last one
-pub all-yielded : {A B : Type 0} (f : A → B) (all : List A) (yielded : List (Bor A)) → map (λ y. y.now) yielded ≡ reverse all → map (λ y. f y.now) (reverse yielded) ≡ map f all
-all-yielded f all yielded e = through f (reverse yielded) ∙ ap (map f) (map-backward (λ y. y.now) yielded ∙ ap reverse e ∙ reverse-reverse all)

@@ -26,4 +26,5 @@ pub use body_names::BodyNames;
 pub use error::ScopeError;
 pub use names::{Names, NamesError};
 pub use resolving::{Resolved, resolve};
+pub use spellings::Spellings;
 pub use used::Use;

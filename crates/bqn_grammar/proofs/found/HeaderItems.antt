@@ -14,7 +14,7 @@ use Rattle.bqn_syntax.specs.grammar.Well.{WellPattern, WellPatterns, WellJoined}
 use Rattle.bqn_syntax.specs.grammar.Trees.{Pattern, Name, Skip, Literal, ListPattern, StrandPattern, Patterns, no_patterns, and_patterns, patterns, Leaf, Nothing}
 use Rattle.bqn_grammar.proofs.TreeItems.{part_item, pattern_items, joined_items, joined_more_items}
 use Rattle.bqn_grammar.proofs.found.Patterns.{patterns_list, patterns_back}
-use Rattle.bqn_grammar.proofs.found.Pieces.{pattern_found, pattern_items_are_some}
+use Rattle.bqn_grammar.proofs.found.Patterns.{pattern_read, pattern_has_items}
 use Rattle.bqn_grammar.proofs.Fitting.{exact_is, mark_is, apart_is, mark_sort, word_stands, literal_stands}
 
 -- Tokens and signs.
@@ -82,7 +82,7 @@ ended pieces [] q n e = absurd (n refl)
 ended pieces (i ∷ is) q n e = ap (λ (o : Option Pattern). option_map (λ (p : Pattern). at_piece (pieces ++ p ∷ []) []) o) e
 
 ends : (pieces : List Pattern) (q : Pattern) → WellPattern true q → end_of_piece pieces (pattern_items q) ≡ Some (at_piece (pieces ++ q ∷ []) [])
-ends pieces q w = ended pieces (pattern_items q) q (pattern_items_are_some true q w) (pattern_found true q w)
+ends pieces q w = ended pieces (pattern_items q) q (pattern_has_items true q w) (pattern_read true q w)
 
 abbrev list_item : List Pattern → Item
 list_item pieces = Standing (OfList (ListPattern (patterns pieces)))

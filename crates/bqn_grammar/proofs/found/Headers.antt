@@ -16,8 +16,7 @@ use Rattle.bqn_syntax.specs.grammar.Spells.{Sign, Exact, Fits, done, token_signs
 use Rattle.bqn_syntax.specs.grammar.Well.{IsLiteral, WellPattern, WellJoined, IsOutermost, IsArgument, special, pattern, ArgumentFits, OperandFits, SelfFits, SidesFit, WellHeader}
 use Rattle.bqn_syntax.specs.grammar.Trees.{Pattern, Name, Skip, Literal, ListPattern, StrandPattern, Patterns, no_patterns, and_patterns, Header, Leaf, Nothing}
 use Rattle.bqn_grammar.proofs.TreeItems.{part_item, pattern_items, joined_more_items}
-use Rattle.bqn_grammar.proofs.found.Patterns.{pattern_element, pattern_elements, one_item}
-use Rattle.bqn_grammar.proofs.found.Pieces.{pattern_found}
+use Rattle.bqn_grammar.proofs.found.Patterns.{pattern_element, pattern_elements, one_item, pattern_read}
 use Rattle.bqn_grammar.proofs.found.HeaderItems.{having, Goes, goes_nowhere, goes_on, goes_token, pattern_goes}
 
 -- The items of a header.
@@ -228,7 +227,7 @@ header_grouped h w =
 group_read : (q : Pattern) → WellPattern true q → group_pattern true (pattern_group q) ≡ Some q
 group_read q w =
     let e : groups (pattern_items q) ≡ Some (pattern_group q ∷ []) = ap groups (sym (nil_more (pattern_items q))) ∙ pattern_grouped q [] w tt in
-    sym (ap (λ (o : Option (List (List Element))). option_and_then (only_group true) o) e) ∙ pattern_found true q w
+    sym (ap (λ (o : Option (List (List Element))). option_and_then (only_group true) o) e) ∙ pattern_read true q w
 
 name_outermost : (j : Kind) (q : Pattern) → is_name tag.Subject j ≡ true → outermost_name j q ≡ Some q
 name_outermost (kind.Word n role.Subject) q e = refl

@@ -62,14 +62,6 @@ exported_found q w =
     (units_are (pattern_items q ++ Drawn arrow.Export ∷ []) (Arrow' arrow.Export ∷ target_unit q ∷ []) (target_given q arrow.Export w start [] refl) (target_units_of q arrow.Export))
     ∙ ap (λ (o : Option Pattern). option_map (λ (p : Pattern). Export p) o) (target_exported q w)
 
--- Patterns.
-
-pub pattern_found : (literals : Bool) (q : Pattern) → WellPattern literals q → piece_pattern literals (pattern_items q) ≡ Some q
-pattern_found literals q w = pattern_read literals q w
-
-pub pattern_items_are_some : (literals : Bool) (q : Pattern) → WellPattern literals q → pattern_items q ≡ [] → ⊥
-pattern_items_are_some literals q w e = pattern_has_items literals q w e
-
 -- Each piece has an item.
 
 nothing_read : (items : List Item) (e : Expr) → piece_expression items ≡ Some e → items ≡ [] → ⊥
@@ -94,4 +86,4 @@ pub items_begin : (e : Expr) → WellExpr e → Begins (expr_items e)
 items_begin e w = some_items (expr_items e) (items_are_some e w)
 
 pub pattern_items_begin : (literals : Bool) (q : Pattern) → WellPattern literals q → Begins (pattern_items q)
-pattern_items_begin literals q w = some_items (pattern_items q) (pattern_items_are_some literals q w)
+pattern_items_begin literals q w = some_items (pattern_items q) (pattern_has_items literals q w)

@@ -15,16 +15,16 @@ abbrev IsSomeGroup : List Element → Type 0
 IsSomeGroup [] = ⊥
 IsSomeGroup (x ∷ xs) = Unit {0}
 
-abbrev groups_items : List (List Element) → List Item
-groups_items [] = []
-groups_items (g ∷ gs) = elements_items g ++ groups_items gs
+abbrev good_groups_items : List (List Element) → List Item
+good_groups_items [] = []
+good_groups_items (g ∷ gs) = elements_items g ++ good_groups_items gs
 
 abbrev GoodGroups : Bool → List (List Element) → Type 0
 GoodGroups b [] = Unit {0}
 GoodGroups b (g ∷ gs) = IsSomeGroup g × Goods b g × GoodGroups b gs
 
 record Grouped (b : Bool) (items : List Item) (gs : List (List Element)) : Type 0 where
-  pub written : groups_items gs ≡ items
+  pub written : good_groups_items gs ≡ items
   pub good : GoodGroups b gs
 
 some_more : (xs : List Element) → IsSomeGroup xs → more_elements xs ≡ Joining ∷ elements_items xs
@@ -37,9 +37,9 @@ onto_grouped b x items (Some []) gs g one k e = absurd (cc)
 onto_grouped b x items (Some (h ∷ hs)) gs g one k e =
     let q : (x ∷ h) ∷ hs ≡ gs = cc in
     let r = k (h ∷ hs) refl in
-    let w : (element_items x ++ more_elements h) ++ groups_items hs ≡ Standing x ∷ Joining ∷ items =
-    ap (λ (l : List Item). (element_items x ++ l) ++ groups_items hs) (some_more h r.good.0)
-    ∙ ap (λ (l : List Item). (l ++ Joining ∷ elements_items h) ++ groups_items hs) one
+    let w : (element_items x ++ more_elements h) ++ good_groups_items hs ≡ Standing x ∷ Joining ∷ items =
+    ap (λ (l : List Item). (element_items x ++ l) ++ good_groups_items hs) (some_more h r.good.0)
+    ∙ ap (λ (l : List Item). (l ++ Joining ∷ elements_items h) ++ good_groups_items hs) one
     ∙ ap (λ (l : List Item). Standing x ∷ Joining ∷ l) r.written in
     subst (λ (l : List (List Element)). Grouped b (Standing x ∷ Joining ∷ items) l) q (record { written = w; good = (tt, (g, r.good.1), r.good.2) })
 
@@ -48,8 +48,8 @@ alone_grouped b x items None gs g one k e = absurd (cc)
 alone_grouped b x items (Some hs) gs g one k e =
     let q : (x ∷ []) ∷ hs ≡ gs = cc in
     let r = k hs refl in
-    let w : (element_items x ++ []) ++ groups_items hs ≡ Standing x ∷ items =
-    ap (λ (l : List Item). (l ++ []) ++ groups_items hs) one
+    let w : (element_items x ++ []) ++ good_groups_items hs ≡ Standing x ∷ items =
+    ap (λ (l : List Item). (l ++ []) ++ good_groups_items hs) one
     ∙ ap (λ (l : List Item). Standing x ∷ l) r.written in
     subst (λ (l : List (List Element)). Grouped b (Standing x ∷ items) l) q (record { written = w; good = (tt, (g, tt), r.good) })
 

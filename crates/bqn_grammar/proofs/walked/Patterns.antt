@@ -18,7 +18,7 @@ use Rattle.bqn_syntax.specs.grammar.Spells.{Sign, Mark, Apart, Gap, Fits, apart,
 use Rattle.bqn_syntax.specs.grammar.Well.{WellPattern, WellPatterns, WellJoined, pattern_depth, patterns_depth}
 use Rattle.bqn_syntax.specs.grammar.Trees.{Pattern, Name, Skip, Literal, ListPattern, StrandPattern, Patterns, no_patterns, and_patterns, patterns, Leaf, Nothing, BodyTree}
 use Rattle.bqn_grammar.proofs.TreeItems.{part_item, pattern_items, joined_items, joined_more_items}
-use Rattle.bqn_grammar.proofs.found.Pieces.{pattern_found, pattern_items_are_some}
+use Rattle.bqn_grammar.proofs.found.Patterns.{pattern_read, pattern_has_items}
 use Rattle.bqn_grammar.proofs.walked.Looks.{mark_is, mark_sort, word_stands, literal_stands, behind_opening, list_crosses, joined_more_passes}
 use Rattle.bqn_grammar.proofs.walked.Arrows.{Arrows, Colons, other_arrows, apart_arrows, gap_arrows, joined_arrows, looks_at}
 use Rattle.bqn_grammar.proofs.walked.Steps.{having, clean, Arrives, nothing_more, and_then, take_exact, take_mark, Many, gap_walks, Completes, apart_walks, Makes, close_after, close_empty, open_step, group_arrives}
@@ -156,9 +156,9 @@ judged_pattern inside.Block place l q p e = elim p [ ]
 
 completes_pattern : (l : OpenBracket) (j : Inside) (q : Pattern) → l.inside ≡ j → IsPatternInside j → WellPattern (literals_in j) q → Completes l (pattern_items q) (clean (and_target q l))
 completes_pattern l j q e p w place f =
-    ended_some (pattern_items q) place (having (clean l) (pattern_items q) f) (pattern_items_are_some (literals_in j) q w)
+    ended_some (pattern_items q) place (having (clean l) (pattern_items q) f) (pattern_has_items (literals_in j) q w)
     ∙ ap (λ (i : Inside). judged i place (having (clean l) (pattern_items q) f)) e
-    ∙ judged_pattern j place (having (clean l) (pattern_items q) f) q p (pattern_found (literals_in j) q w)
+    ∙ judged_pattern j place (having (clean l) (pattern_items q) f) q p (pattern_read (literals_in j) q w)
 
 more_arrows : (qs : Patterns) (k : List Sign) → Arrows false (listed_more qs (Gap ∷ Mark punctuation.close_angle ∷ k))
 more_arrows no_patterns k = closed_gap_arrows Angle punctuation.close_angle k refl

@@ -163,7 +163,7 @@ module _ (names : ℕ → List (List ℕ)) (tb : Table) (here : Placed) (name_us
       by : (x : Option plain.Value) → Same V (known (there x)) (found Undefined x >>= given)
       by None = record { is = λ t. refl }
       by (Some x) = record { is = λ t. refl }
-  special_acts p special.Modifier = single o i.Modifier p as_is (λ next st t. refl) (by (modifier_of f.class f.block f.parent))
+  special_acts p special.Modifier = single o i.Modifier p as_is (λ next st t. refl) (by (modifier_of f.class f.block f.outer))
     where
       by : (x : Option plain.Value) → Same V (known (there x)) (found Undefined x >>= given)
       by None = record { is = λ t. refl }

@@ -17,7 +17,7 @@ use Rattle.bqn_compile.specs.declared.count.Count.{Count}
 use Rattle.bqn_compile.specs.Blocks.{bodies_code}
 use Rattle.bqn_compile.specs.Bodies.{kind_code}
 use Rattle.bqn_compile.specs.Walking.{setting_of, names_of, walked, onward, push, skip, steps_walk, exprs_behind, parts_behind, stmts_behind, bodies_behind, block_walk}
-use Rattle.bqn_compile.proofs.Yielded.{all-yielded}
+use Rattle.bqn_base.proofs.Lists.{all_yielded}
 use Rattle.bqn_compile.proofs.Onward.{stmts-end}
 use Rattle.bqn_compile.proofs.Turning.{expr-turned, part-turned, list-turned, strand-turned}
 use Rattle.bqn_compile.proofs.Bodies.{body-code-made, body-walk-made, block-made}
@@ -52,7 +52,7 @@ pub steps-returns : goal.steps-returns
 steps-returns t c =
     c.loop-s.invariant
     ∙ ap (λ (ss : List Step). steps_walk (setting_of c.args.known.now) (names_of c.args.known.now) c.args.inside (steps ss) (walked c.args.out.now))
-    (all-yielded step_of c.args.all.now c.loop-s.yielded (YieldsList-end (YieldsList-from_rev_slice c.args.all.now cc) c.loop-s.yielded _ c.loop-s.yielded_by _ _ c.in-None.is c.next.ensures.steps).0)
+    (all_yielded step_of c.args.all.now c.loop-s.yielded (YieldsList-end (YieldsList-from_rev_slice c.args.all.now cc) c.loop-s.yielded _ c.loop-s.yielded_by _ _ c.in-None.is c.next.ensures.steps).0)
 
 pub deriveds-loop-d-preserved : goal.deriveds-loop-d-preserved
 deriveds-loop-d-preserved t c =

@@ -5,7 +5,7 @@ use Rattle.bqn_syntax.specs.blocks.Leads.{or_else, uses_lead, deriveds_lead}
 use Rattle.bqn_syntax.specs.grammar.Trees.{Use, Derived, use_of, derived_of, uses, deriveds}
 use Rattle.bqn_compile.specs.Expressions.{parts_read}
 use Rattle.bqn_compile.specs.Placing.{uses_places, deriveds_places}
-use Rattle.bqn_compile.proofs.Yielded.{all-yielded}
+use Rattle.bqn_base.proofs.Lists.{all_yielded}
 use Rattle.bqn_compile.proofs.Loops.{drop-next}
 use Rattle.bqn_compile.proofs.Placings.{on_ok, steps-more, lead-more, unstarted-Apply, unstarted-Assign, unstarted-Modify}
 use Rattle.bqn_compile.proofs.placing.+placing.Goals as goal
@@ -14,31 +14,31 @@ pub deriveds-returns-clause-places : goal.deriveds-returns-clause-places
 deriveds-returns-clause-places t c =
     c.loop-d.invariant.places
     ∙ ap (λ (ds : List Derived). c.args.out.now.items ++ deriveds_places c.args.lead (deriveds ds))
-    (all-yielded derived_of c.args.all.now c.loop-d.yielded (YieldsList-end (YieldsList-from_rev_slice c.args.all.now cc) c.loop-d.yielded _ c.loop-d.yielded_by _ _ c.in-None.is c.next.ensures.steps).0)
+    (all_yielded derived_of c.args.all.now c.loop-d.yielded (YieldsList-end (YieldsList-from_rev_slice c.args.all.now cc) c.loop-d.yielded _ c.loop-d.yielded_by _ _ c.in-None.is c.next.ensures.steps).0)
 
 pub deriveds-returns-clause-read : goal.deriveds-returns-clause-read
 deriveds-returns-clause-read t c =
     c.loop-d.invariant.read
     ∙ ap (λ (ds : List Derived). parts_read (deriveds ds))
-    (all-yielded derived_of c.args.all.now c.loop-d.yielded (YieldsList-end (YieldsList-from_rev_slice c.args.all.now cc) c.loop-d.yielded _ c.loop-d.yielded_by _ _ c.in-None.is c.next.ensures.steps).0)
+    (all_yielded derived_of c.args.all.now c.loop-d.yielded (YieldsList-end (YieldsList-from_rev_slice c.args.all.now cc) c.loop-d.yielded _ c.loop-d.yielded_by _ _ c.in-None.is c.next.ensures.steps).0)
 
 pub mod_uses-returns-clause-places : goal.mod_uses-returns-clause-places
 mod_uses-returns-clause-places t c =
     c.loop-u.invariant.places
     ∙ ap (λ (us : List Use). c.args.out.now.items ++ uses_places c.args.lead (uses us))
-    (all-yielded use_of c.args.all.now c.loop-u.yielded (YieldsList-end (YieldsList-from_rev_slice c.args.all.now cc) c.loop-u.yielded _ c.loop-u.yielded_by _ _ c.in-None.is c.next.ensures.steps).0)
+    (all_yielded use_of c.args.all.now c.loop-u.yielded (YieldsList-end (YieldsList-from_rev_slice c.args.all.now cc) c.loop-u.yielded _ c.loop-u.yielded_by _ _ c.in-None.is c.next.ensures.steps).0)
 
 pub mod_uses-returns-clause-own : goal.mod_uses-returns-clause-own
 mod_uses-returns-clause-own t c =
     c.loop-u.invariant.own
     ∙ ap (λ (us : List Use). uses_lead (uses us))
-    (all-yielded use_of c.args.all.now c.loop-u.yielded (YieldsList-end (YieldsList-from_rev_slice c.args.all.now cc) c.loop-u.yielded _ c.loop-u.yielded_by _ _ c.in-None.is c.next.ensures.steps).0)
+    (all_yielded use_of c.args.all.now c.loop-u.yielded (YieldsList-end (YieldsList-from_rev_slice c.args.all.now cc) c.loop-u.yielded _ c.loop-u.yielded_by _ _ c.in-None.is c.next.ensures.steps).0)
 
 pub deriveds-returns-clause-own : goal.deriveds-returns-clause-own
 deriveds-returns-clause-own t c =
     c.loop-d.invariant.own
     ∙ ap (λ (ds : List Derived). deriveds_lead (deriveds ds))
-    (all-yielded derived_of c.args.all.now c.loop-d.yielded (YieldsList-end (YieldsList-from_rev_slice c.args.all.now cc) c.loop-d.yielded _ c.loop-d.yielded_by _ _ c.in-None.is c.next.ensures.steps).0)
+    (all_yielded derived_of c.args.all.now c.loop-d.yielded (YieldsList-end (YieldsList-from_rev_slice c.args.all.now cc) c.loop-d.yielded _ c.loop-d.yielded_by _ _ c.in-None.is c.next.ensures.steps).0)
 
 pub steps-loop-s-preserved : goal.steps-loop-s-preserved
 steps-loop-s-preserved t c =

@@ -2,6 +2,7 @@
 use Rattle.std.proofs.Common.{◌≡◌, ◌≤◌, ℕ, suc, ◌&&◌, ◌||◌, Bool, true, false, if◌then◌else◌, nat_le, List, ◌∷◌, length, Option, Some, None, arith, refl, sym, ap, subst, ◌∙◌}
 use Rattle.std.specs.List.{list_all, list_any}
 use Rattle.std.proofs.lemmas.Bool.{true≢false, leb-true}
+use Rattle.bqn_base.proofs.Lists.{some_same}
 use Rattle.bqn_syntax.specs.declared.tree.Class.{Class}
 use Rattle.bqn_syntax.specs.declared.tree.Class.TheVariants as class
 use Rattle.bqn_syntax.specs.grammar.Trees.{Bodies, no_bodies, and_bodies}
@@ -25,9 +26,6 @@ pub record ClassFacts (ms : List Marks) (c : Class) : Type 0 where
   pub plain : waits c ≡ false → plain_last 1 ms ≡ true
 
 -- ---- a class that is one
-
-some_same : {c d : Class} → Some c ≡ Some d → c ≡ d
-some_same {c} p = ap (λ (o : Option Class). elim o [ None ↦ c | Some x ↦ x ]) p
 
 record IsClass (k c : Class) (ms : List Marks) : Type 0 where
   is : k ≡ c

@@ -4,6 +4,7 @@ use Rattle.std.specs.List.{list_any, position_or_len}
 use Rattle.std.proofs.lemmas.Bool.{false≢true, eqb-true, lt-ltb}
 use Rattle.std.proofs.lemmas.List.Quantifiers.{position-Some}
 use Rattle.std.proofs.lemmas.Option.{slice_get-get_or, none-some}
+pub use Rattle.bqn_base.proofs.Lists.{at_front, at_back, some_same}
 use Rattle.bqn_syntax.specs.scope.Scope.{same_name, has, place_of}
 use Rattle.bqn_compile.proofs.verified.Tests.{or_left, or_right, both_true, left_true, right_true}
 
@@ -24,30 +25,12 @@ front_trans {xs = xs} h k = record { rest = h.rest ++ k.rest; whole = sym (appen
 pub front_equal : {A : Type 0} {xs ys : List A} → xs ≡ ys → Front xs ys
 front_equal {xs = xs} e = record { rest = []; whole = append-nil xs ∙ e }
 
-pub some_same : {A : Type 0} {x y : A} → Some x ≡ Some y → x ≡ y
-some_same {x = x} q = ap (λ o. elim o [ None ↦ x | Some z ↦ z ]) q
-
-at_front : {A : Type 0} (xs ys : List A) (k : ℕ) (x : A) → slice_get xs k ≡ Some x → slice_get (xs ++ ys) k ≡ Some x
-at_front [] ys k x h = absurd (none-some x h)
-at_front (y ∷ xs) ys zero x h = h
-at_front (y ∷ xs) ys (suc k) x h = at_front xs ys k x h
-
 pub front_at : {A : Type 0} {xs ys : List A} (k : ℕ) (x : A) → Front xs ys → slice_get xs k ≡ Some x → slice_get ys k ≡ Some x
 front_at {xs = xs} k x h e = subst (λ l. slice_get l k ≡ Some x) h.whole (at_front xs h.rest k x e)
 
 pub at_end : {A : Type 0} (xs : List A) (x : A) (ys : List A) → slice_get (xs ++ x ∷ ys) (length xs) ≡ Some x
 at_end [] x ys = refl
 at_end (y ∷ xs) x ys = at_end xs x ys
-
-pub at_back : {A : Type 0} (xs ys : List A) (k : ℕ) (x : A) → slice_get ys k ≡ Some x → slice_get (xs ++ ys) (length xs + k) ≡ Some x
-at_back [] ys k x h = subst (λ n. slice_get ys n ≡ Some x) (same k) h
-  where
-    same : (n : ℕ) → n ≡ 0 + n
-    same n = omega arith
-at_back (y ∷ xs) ys k x h = subst (λ n. slice_get (y ∷ (xs ++ ys)) n ≡ Some x) (same (length xs) k) (at_back xs ys k x h)
-  where
-    same : (n m : ℕ) → suc (n + m) ≡ suc n + m
-    same n m = omega arith
 
 pub at_below : {A : Type 0} (xs : List A) (k : ℕ) (x : A) → slice_get xs k ≡ Some x → k < length xs
 at_below [] k x h = absurd (none-some x h)

@@ -4,8 +4,8 @@ use Rattle.bqn_scope.specs.Shown.{events_backward}
 use Rattle.std.proofs.Common.{◌∙◌, ap}
 use Rattle.std.proofs.lemmas.Iterator.Adapters.{YieldsList-from_rev_slice}
 use Rattle.std.proofs.lemmas.Iterator.Consumers.{YieldsList-end}
-use Rattle.bqn_scope.proofs.Backward.{all-yielded}
+use Rattle.bqn_base.proofs.Lists.{all_yielded}
 use Rattle.bqn_scope.proofs.order.statements.Goals as goal
 
 pub returns : goal.returns
-returns c = c.loop-s.invariant ∙ ap (λ xs. stmts_order (stmts xs) (events_backward c.args.events.now.items)) (all-yielded stmt_of c.args.all.now c.loop-s.yielded (YieldsList-end (YieldsList-from_rev_slice c.args.all.now cc) c.loop-s.yielded _ c.loop-s.yielded_by _ _ c.in-None.is c.next.ensures.steps).0)
+returns c = c.loop-s.invariant ∙ ap (λ xs. stmts_order (stmts xs) (events_backward c.args.events.now.items)) (all_yielded stmt_of c.args.all.now c.loop-s.yielded (YieldsList-end (YieldsList-from_rev_slice c.args.all.now cc) c.loop-s.yielded _ c.loop-s.yielded_by _ _ c.in-None.is c.next.ensures.steps).0)
