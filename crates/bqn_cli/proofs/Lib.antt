@@ -1,4 +1,4 @@
-pub mod LineBytes
+pub mod UsageBytes
 pub mod CommandWords
 pub mod Ended
 pub mod Accepted

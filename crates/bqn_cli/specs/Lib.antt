@@ -1,4 +1,3 @@
-pub mod Texts
 pub mod Command
 pub mod Answer
 pub mod Headline

@@ -8,8 +8,8 @@ ghost use Rattle.bqn_cli.specs.Tasks.{task_answer, task_command};
 ghost use Rattle.bqn_cli.specs.Writing.{Gives, fetched_answer, status_of};
 
 use crate::halted::Halted;
-use crate::lines::usage_line;
 use crate::script::{check_source, put_line, refuse, run_source};
+use crate::usage::usage_line;
 use crate::words::{Task, task_of};
 use bqn_base::{Refusal, Status};
 use bqn_io::{Failed, FetchError, Fetched, Files, Sink, Source};

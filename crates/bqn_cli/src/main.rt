@@ -4,11 +4,10 @@
 mod command;
 mod front;
 mod halted;
-mod lines;
-mod places;
 mod script;
 #[cfg(test)]
 mod tests;
+mod usage;
 mod words;
 
 use bqn_base::Status;

@@ -10,8 +10,8 @@ ghost use Rattle.bqn_cli.specs.Writing.{Gives, GivesRun};
 
 use crate::front::{SourceError, accepted};
 use crate::halted::Halted;
-use crate::lines::{error_line, refusal_line};
 use bqn_base::{Refusal, Status};
+use bqn_format::{error_line, refusal_line};
 use bqn_forms::{End, Instr, Raised, run_code};
 use bqn_io::{Failed, Sink};
 use bqn_syntax::{Token, Tree};

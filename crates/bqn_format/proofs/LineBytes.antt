@@ -12,16 +12,10 @@ use Rattle.bqn_base.specs.declared.fault.Fault.{Fault}
 use Rattle.bqn_base.specs.declared.fault.Fault.TheVariants.{Assert}
 use Rattle.bqn_base.specs.declared.place.Place.{Place}
 use Rattle.bqn_base.specs.declared.refusal.Refusal.{Refusal}
-use Rattle.bqn_base.specs.Printed.{line, counted_lines, line_and_column, far_place_text, place_text, error_place, fault_name, fault_message, shown_message, error_line, refusal_text, refusal_line, usage_line}
-use Rattle.bqn_cli.specs.declared.lines.Where.{Where}
-use Rattle.bqn_cli.specs.declared.lines.Where.TheVariants as where_is
-use Rattle.bqn_cli.specs.Texts.{where_text}
-
-pub encodes-usage_line : encodes usage_line ≡ usage_line
-unfolding encode
-encodes-usage_line = refl
-
-pub ruleset usage_laws = (encodes-usage_line)
+use Rattle.bqn_base.specs.Printed.{line, counted_lines, line_and_column, far_place_text, place_text, error_place, fault_name, fault_message, shown_message, error_line, refusal_text, refusal_line}
+use Rattle.bqn_format.specs.declared.lines.Where.{Where}
+use Rattle.bqn_format.specs.declared.lines.Where.TheVariants as where_is
+use Rattle.bqn_format.specs.Texts.{where_text}
 
 encodes-fault_name : (fault : Fault) → encodes (fault_name fault) ≡ fault_name fault
 unfolding encode

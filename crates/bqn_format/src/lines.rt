@@ -1,4 +1,4 @@
-//! The lines that end a run: of a fault, of a refused source, and of words that are no command.
+//! The lines that end a run: of a fault, and of a refused source.
 
 ghost use Rattle.std.specs.Prelude.{◌≡◌, ◌++◌, List, ℕ, IfOk, OnOk, IsTrue, decimal, encode_utf8_all};
 ghost use Rattle.std.specs.Char.{is_ascii};
@@ -7,31 +7,19 @@ ghost use Rattle.std.specs.String.{string_bytes};
 ghost use Rattle.bqn_base.specs.Printed.{error_place, fault_message, fault_name, refusal_text, shown_message};
 ghost use Rattle.bqn_base.specs.Printed.{error_line as error_line_of};
 ghost use Rattle.bqn_base.specs.Printed.{refusal_line as refusal_line_of};
-ghost use Rattle.bqn_base.specs.Printed.{usage_line as usage_line_of};
-ghost use Rattle.bqn_cli.specs.Texts.{where_text};
+ghost use Rattle.bqn_format.specs.Texts.{where_text};
 
 use crate::places::{push_number, push_place};
 use bqn_base::{Fault, Memory, Place, Refusal};
 use std::alloc::{AllocError, Global};
 
-const USAGE: &str =
-    "Usage: run [--steps N] FILE ARG.. | session [--steps N] | check FILE | build FILE | exec [--steps N] FILE ARG.. | demo N\n";
-
-/// The line for words that are no command.
-#[tactic(auto, using(crate::proofs::LineBytes::usage_laws))]
-pub(crate) fn usage_line() -> &'static [u8]
-    ensures { result.now ≡ encode_utf8_all usage_line_of }
-{
-    USAGE.as_bytes()
-}
-
-/// The line of an uncaught fault: its name, its place where there is one, and the message of an
-/// `Assert` that has one.
-pub(crate) fn error_line(
-    alloc: Global,
-    fault: &Fault,
-    place: Option<Place>,
-) -> Result<Vec<u8>, Memory>
+/// The line of an uncaught fault, in UTF-8, with its newline: the fault's name, its place where there is one,
+/// and the message of an `Assert` that has one.
+///
+/// # Errors
+///
+/// Want of memory.
+pub fn error_line(alloc: Global, fault: &Fault, place: Option<Place>) -> Result<Vec<u8>, Memory>
     ensures { IfOk result (λ bytes. bytes.items ≡ encode_utf8_all (error_line_of fault.now place)) }
 {
     match error_text(alloc, fault, place) {
@@ -40,8 +28,13 @@ pub(crate) fn error_line(
     }
 }
 
-/// The line of a refused source: the name of the refusal, and the place where it has one.
-pub(crate) fn refusal_line(alloc: Global, refusal: &Refusal) -> Result<Vec<u8>, Memory>
+/// The line of a refused source, in UTF-8, with its newline: the name of the refusal, and the place or the
+/// count of bytes where it has one.
+///
+/// # Errors
+///
+/// Want of memory.
+pub fn refusal_line(alloc: Global, refusal: &Refusal) -> Result<Vec<u8>, Memory>
     ensures { IfOk result (λ bytes. bytes.items ≡ encode_utf8_all (refusal_line_of refusal.now)) }
 {
     match refusal_text(alloc, refusal) {
