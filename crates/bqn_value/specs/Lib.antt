@@ -1,0 +1,3 @@
+pub mod Seen
+pub mod Meaning
+pub mod Falls
