@@ -122,9 +122,28 @@ fn part(lead: Place, x: &Part, out: &mut Vec<Place>) -> Result<Option<Place>, Me
     }
 }
 
+/// A part by itself has its own places alone.
 #[cycle(placing)]
 #[tactic(auto, using(bqn_syntax::specs::grammar::TreeEquations::tree_equations, crate::proofs::Placings::placing_laws))]
 fn expr(lead: Place, e: &Expr, out: &mut Vec<Place>) -> Result<Option<Place>, Memory>
+    ensures places { OnOk result (out.new.items ≡ out.old.items ++ placing.expr_places lead (expr_of e.now)) }
+    ensures own { IfOk result (λ own. own ≡ leading.expr_lead (expr_of e.now)) }
+{
+    if let Expr::Value {
+        last: Some(x),
+        steps: all,
+    } = e
+    {
+        if all.list().is_empty() {
+            return part(lead, x, out);
+        }
+    }
+    longer(lead, e, out)
+}
+
+#[cycle(placing)]
+#[tactic(auto, using(bqn_syntax::specs::grammar::TreeEquations::tree_equations, crate::proofs::Placings::placing_laws))]
+fn longer(lead: Place, e: &Expr, out: &mut Vec<Place>) -> Result<Option<Place>, Memory>
     ensures places { OnOk result (out.new.items ≡ out.old.items ++ placing.expr_places lead (expr_of e.now)) }
     ensures own { IfOk result (λ own. own ≡ leading.expr_lead (expr_of e.now)) }
 {
@@ -248,9 +267,13 @@ fn derived(lead: Place, d: &Derived, out: &mut Vec<Place>) -> Result<Option<Plac
     ensures places { OnOk result (out.new.items ≡ out.old.items ++ placing.derived_places lead (derived_of d.now)) }
     ensures own { IfOk result (λ own. own ≡ leading.derived_lead (derived_of d.now)) }
 {
-    let after = mod_uses(lead, d.uses.list(), out)?;
+    let all = d.uses.list();
+    if all.is_empty() {
+        return part(lead, &d.first, out);
+    }
+    let after = mod_uses(lead, all, out)?;
     let own = part(lead, &d.first, out)?;
-    derives(lead, d.uses.list(), out)?;
+    derives(lead, all, out)?;
     Ok(or_next(own, after))
 }
 
@@ -420,11 +443,11 @@ fn statement(lead: Place, s: &Stmt, out: &mut Vec<Place>) -> Result<bool, Memory
 {
     match s {
         Stmt::Eval(e) => {
-            expr(lead, e, out)?;
+            longer(lead, e, out)?;
             Ok(true)
         }
         Stmt::Predicate(e) => {
-            expr(lead, e, out)?;
+            longer(lead, e, out)?;
             push(out, lead)?;
             Ok(false)
         }
