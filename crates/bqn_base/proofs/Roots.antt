@@ -51,7 +51,7 @@ root-among w x (suc many) y r n e l h = root_among-suc w x many y ∙ at (nat_eq
     at false k further = further (let m = differs k in omega arith)
 
 -- a base is at most its power
-base-below : (w y : ℕ) → 1 ≤ w → y ≤ y ^ w
+pub base-below : (w y : ℕ) → 1 ≤ w → y ≤ y ^ w
 base-below w zero h = omega arith
 base-below w (suc y) h = let l = pow-le-pow_right {n = suc y} (omega arith) {i = 1} {j = w} h in subst (λ z. z ≤ suc y ^ w) (first-power (suc y)) l
   where

@@ -8,40 +8,71 @@ fn shown(answer: Result<i64, Fault>) -> Result<i64, &'static str> {
         Err(Fault::Overflow) => Err("Overflow"),
         Err(Fault::NotWhole) => Err("NotWhole"),
         Err(Fault::DivideByZero) => Err("DivideByZero"),
+        Err(Fault::Domain) => Err("Domain"),
         Err(_) => Err("another fault"),
     }
 }
 
 #[test]
-fn quotients(rt: HostRuntime) -> Result<(), Fail> {
-    // Two numbers and their quotient.
+fn powers_and_roots(rt: HostRuntime) -> Result<(), Fail> {
+    // Two numbers, and the power of the first and the root of the second.
     let rows = [
-        (i64::MIN, -1, Err("Overflow")),
-        (-3, 7, Err("NotWhole")),
-        (-12, -3, Ok(4)),
-        (-1, i64::MIN, Err("NotWhole")),
-        (0, 5, Ok(0)),
-        (5, 0, Err("DivideByZero")),
+        (-2, 63, Ok(i64::MIN), Err("NotWhole")),
+        (2, 64, Err("Overflow"), Ok(8)),
+        (3, 27, Ok(7625597484987), Ok(3)),
+        (3, 40, Err("Overflow"), Err("NotWhole")),
+        (0, 0, Ok(1), Err("DivideByZero")),
+        (0, -1, Err("DivideByZero"), Err("DivideByZero")),
+        (-1, i64::MAX, Ok(-1), Err("NotWhole")),
+        (1, i64::MAX, Ok(1), Ok(i64::MAX)),
+        (2, 9223372030926249001, Err("Overflow"), Ok(3037000499)),
+        (62, 4611686018427387904, Err("Overflow"), Ok(2)),
+        (2, -1, Err("NotWhole"), Err("Domain")),
+        (-3, 1, Ok(-3), Ok(1)),
     ];
-    for (w, x, quotient) in rows {
-        assert_eq!(rt; shown(num::div(w, x)), quotient, "{w} ÷ {x}");
+    for (w, x, power, root) in rows {
+        assert_eq!(rt; shown(num::pow(w, x)), power, "{w} ⋆ {x}");
+        assert_eq!(rt; shown(num::root(w, x)), root, "{w} √ {x}");
     }
-    assert_eq!(rt; shown(num::reciprocal(-1)), Ok(-1));
+    assert_eq!(rt; shown(num::sqrt(49)), Ok(7));
     assert_eq!(rt; shown(num::exponential(0)), Ok(1));
     Ok(())
 }
 
 #[test]
-fn spans(rt: HostRuntime) -> Result<(), Fail> {
-    // Two numbers and how far they span.
+fn quotients(rt: HostRuntime) -> Result<(), Fail> {
+    // Two numbers, the quotient of the first by the second, and the second modulo the first.
     let rows = [
-        (i64::MAX, 0, Err("Overflow")),
-        (0, i64::MIN, Err("Overflow")),
-        (-2, i64::MAX, Ok(i64::MIN)),
-        (i64::MAX, 1, Ok(i64::MAX)),
+        (i64::MIN, -1, Err("Overflow"), Ok(-1)),
+        (-3, 7, Err("NotWhole"), Ok(-2)),
+        (3, -7, Err("NotWhole"), Ok(2)),
+        (-12, -3, Ok(4), Ok(-3)),
+        (-1, i64::MIN, Err("NotWhole"), Ok(0)),
+        (i64::MAX, i64::MIN, Err("NotWhole"), Ok(i64::MAX - 1)),
+        (0, 5, Ok(0), Err("DivideByZero")),
+        (5, 0, Err("DivideByZero"), Ok(0)),
     ];
-    for (w, x, span) in rows {
+    for (w, x, quotient, modulus) in rows {
+        assert_eq!(rt; shown(num::div(w, x)), quotient, "{w} ÷ {x}");
+        assert_eq!(rt; shown(num::modulus(w, x)), modulus, "{w} | {x}");
+    }
+    assert_eq!(rt; shown(num::reciprocal(-1)), Ok(-1));
+    Ok(())
+}
+
+#[test]
+fn spans_and_ors(rt: HostRuntime) -> Result<(), Fail> {
+    // Two numbers, how far they span, and their or.
+    let rows = [
+        (i64::MAX, 0, Err("Overflow"), Ok(i64::MAX)),
+        (0, i64::MIN, Err("Overflow"), Ok(i64::MIN)),
+        (-2, i64::MAX, Ok(i64::MIN), Err("Overflow")),
+        (i64::MAX, 1, Ok(i64::MAX), Ok(1)),
+        (1, i64::MAX, Ok(2 - i64::MAX), Ok(1)),
+    ];
+    for (w, x, span, or) in rows {
         assert_eq!(rt; shown(num::span(w, x)), span, "{w} ¬ {x}");
+        assert_eq!(rt; shown(num::or_of(w, x)), or, "{w} ∨ {x}");
     }
     assert_eq!(rt; shown(num::abs(i64::MIN)), Err("Overflow"));
     assert_eq!(rt; shown(num::not_of(i64::MIN)), Err("Overflow"));
