@@ -6,3 +6,4 @@ pub mod Sound
 pub mod Sure
 pub mod SoundTables
 mod LongTexts
+pub mod Uniformity

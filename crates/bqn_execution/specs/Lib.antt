@@ -5,3 +5,4 @@ pub mod Operands
 pub mod Execution
 pub mod Programs
 pub mod Sureness
+pub mod Uniform

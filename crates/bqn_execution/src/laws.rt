@@ -1,6 +1,7 @@
 //! What holds of the definitions themselves: nothing runs here.
 
 ghost use Rattle.bqn_execution.specs.Sureness.{VerifiedCodeIsNeverStuck};
+ghost use Rattle.bqn_execution.specs.Uniform.{OutputMakesNoDifference};
 
 /// Verified code, by itself or behind other verified codes, is never stuck: each instruction finds
 /// its operands on the stack, and the constant, the pattern or the block that it names. A missing
@@ -9,4 +10,11 @@ ghost use Rattle.bqn_execution.specs.Sureness.{VerifiedCodeIsNeverStuck};
 #[tactic(auto, using(crate::proofs::SoundTables::sure_laws))]
 pub fn verified_code_is_never_stuck()
     ensures { VerifiedCodeIsNeverStuck }
+{}
+
+/// What was written before makes no difference to what code does: neither to the answer, nor to the
+/// variables and the steps that are left, nor to the bytes that it adds.
+#[tactic(auto, using(crate::proofs::Uniformity::uniform_laws))]
+pub fn output_makes_no_difference()
+    ensures { OutputMakesNoDifference }
 {}

@@ -4,4 +4,4 @@
 
 mod laws;
 
-pub use laws::verified_code_is_never_stuck;
+pub use laws::{output_makes_no_difference, verified_code_is_never_stuck};
