@@ -37,10 +37,10 @@ in_block n left many blocks block body around whole w h p m lt b a =
     let front : P block = subst P (sym p) (at-front n blocks block h) in
     let len : length (map (row_in n block.parent) block.bodies) ≡ many = length-map block.bodies (row_in n block.parent) ∙ sym m in
     let here : slice_get (rows_of n (drop n blocks)) left ≡ Some (row_in n block.parent body) =
-        ap (λ rows. slice_get rows left) front
-        ∙ (in-front (map (row_in n block.parent) block.bodies) (rows_of (n + 1) (drop (n + 1) blocks)) left (omega arith)
-        ∙ (slice_get-map (row_in n block.parent) block.bodies left
-        ∙ ap (option_map (row_in n block.parent)) (slice_get-get_or block.bodies left body (omega arith) ∙ ap (λ (x : Body). Some x) (sym b))))
+    ap (λ rows. slice_get rows left) front
+    ∙ (in-front (map (row_in n block.parent) block.bodies) (rows_of (n + 1) (drop (n + 1) blocks)) left (omega arith)
+    ∙ (slice_get-map (row_in n block.parent) block.bodies left
+    ∙ ap (option_map (row_in n block.parent)) (slice_get-get_or block.bodies left body (omega arith) ∙ ap (λ (x : Body). Some x) (sym b))))
     in ap (λ (o : Option ℕ). Some (record { slots = body.slots; around = o })) a ∙ (sym here ∙ w)
 
 pub no_block : (n left : ℕ) (blocks : List Block) (whole : Option Row) → slice_get (rows_of n (drop n blocks)) left ≡ whole → length blocks ≤ n → None ≡ whole

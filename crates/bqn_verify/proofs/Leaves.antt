@@ -17,4 +17,5 @@ pub all-patterns : (t : Pattern → Bool) (all : List PatternCode) → list_all 
 all-patterns t all = list_all-map t pattern_of all
 
 pub ruleset code_lengths = (patterns-length, all-patterns)
+
 pub ruleset part_laws = (parts-of)

@@ -25,8 +25,8 @@ mutual
   all-both : (f g h : Pattern → Bool) → ((q : Pattern) → f q ≡ true → g q ≡ true → h q ≡ true) → (ps : Patterns) → is.all_leaves f ps ≡ true → is.all_leaves g ps ≡ true → is.all_leaves h ps ≡ true
   all-both f g h imp no_patterns x y = refl
   all-both f g h imp (and_patterns p ps) x y = both (is.leaves h p) (is.all_leaves h ps)
-    (leaves-both f g h imp p (left (is.leaves f p) (is.all_leaves f ps) x) (left (is.leaves g p) (is.all_leaves g ps) y))
-    (all-both f g h imp ps (right (is.leaves f p) (is.all_leaves f ps) x) (right (is.leaves g p) (is.all_leaves g ps) y))
+      (leaves-both f g h imp p (left (is.leaves f p) (is.all_leaves f ps) x) (left (is.leaves g p) (is.all_leaves g ps) y))
+      (all-both f g h imp ps (right (is.leaves f p) (is.all_leaves f ps) x) (right (is.leaves g p) (is.all_leaves g ps) y))
 
 leaves-weaken : (f g : Pattern → Bool) → ((q : Pattern) → f q ≡ true → g q ≡ true) → (p : Pattern) → is.leaves f p ≡ true → is.leaves g p ≡ true
 leaves-weaken f g imp p x = leaves-both f f g (λ q a b. imp q a) p x x
@@ -264,9 +264,19 @@ to-tests a b c d e f g h i j k t =
     let t1 : (counts && (blocks && rest)) ≡ true = right a (counts && (blocks && rest)) t in
     let t2 : counts ≡ true = left counts (blocks && rest) t1 in
     let t3 : blocks ≡ true = left blocks rest (right counts (blocks && rest) t1) in
-    let t4 : rest ≡ true = right blocks rest (right counts (blocks && rest) t1) in
-    (left a (counts && (blocks && rest)) t, left b (c && (d && e)) t2, left c (d && e) (right b (c && (d && e)) t2), left d e (right c (d && e) (right b (c && (d && e)) t2)), right d e (right c (d && e) (right b (c && (d && e)) t2)),
-    left f (g && h) t3, left g h (right f (g && h) t3), right g h (right f (g && h) t3), left i (j && k) t4, left j k (right i (j && k) t4), right j k (right i (j && k) t4))
+    let t4 : rest ≡ true = right blocks rest (right counts (blocks && rest) t1) in (
+      left a (counts && (blocks && rest)) t,
+      left b (c && (d && e)) t2,
+      left c (d && e) (right b (c && (d && e)) t2),
+      left d e (right c (d && e) (right b (c && (d && e)) t2)),
+      right d e (right c (d && e) (right b (c && (d && e)) t2)),
+      left f (g && h) t3,
+      left g h (right f (g && h) t3),
+      right g h (right f (g && h) t3),
+      left i (j && k) t4,
+      left j k (right i (j && k) t4),
+      right j k (right i (j && k) t4),
+    )
 
 tests-of : (code : Code) → is_verified code ≡ true → Tests code
 tests-of code t =
@@ -298,11 +308,11 @@ verified code t all = record {
   bodies = t.bodies;
   kinds = every code (λ b. is.is_kind_for (waits b.block.class) b.body.kind) all (λ b p. p.kind);
   constants = both (every_instr (λ body i. is.instr_constant_is_there code i) code) (list_all (is.leaves (is.leaf_constant_is_there code)) code.patterns)
-    (each-instr code (λ body i. is.instr_constant_is_there code i) all (to-constant code)) (leaves-are code (is.leaf_constant_is_there code) (leaf-constant code) t.leaves);
+      (each-instr code (λ body i. is.instr_constant_is_there code i) all (to-constant code)) (leaves-are code (is.leaf_constant_is_there code) (leaf-constant code) t.leaves);
   names = both (every_instr (λ body i. is.instr_name_is_there code i) code) (list_all (is.leaves (is.leaf_name_is_there code)) code.patterns && every_body (λ b. list_all (λ e. is.has_name code e.0) b.body.exports) code)
-    (each-instr code (λ body i. is.instr_name_is_there code i) all (to-name code))
-    (both (list_all (is.leaves (is.leaf_name_is_there code)) code.patterns) (every_body (λ b. list_all (λ e. is.has_name code e.0) b.body.exports) code) (leaves-are code (is.leaf_name_is_there code) (leaf-name code) t.leaves)
-    (every code (λ b. list_all (λ e. is.has_name code e.0) b.body.exports) all (λ b p. exported code b (λ e. is.has_name code e.0) (λ e h. left (is.has_name code e.0) (nat_lt e.1 b.body.slots) h) p)));
+      (each-instr code (λ body i. is.instr_name_is_there code i) all (to-name code))
+      (both (list_all (is.leaves (is.leaf_name_is_there code)) code.patterns) (every_body (λ b. list_all (λ e. is.has_name code e.0) b.body.exports) code) (leaves-are code (is.leaf_name_is_there code) (leaf-name code) t.leaves)
+      (every code (λ b. list_all (λ e. is.has_name code e.0) b.body.exports) all (λ b p. exported code b (λ e. is.has_name code e.0) (λ e h. left (is.has_name code e.0) (nat_lt e.1 b.body.slots) h) p)));
   patterns = each-instr code (λ body i. is.instr_pattern_is_there code i) all (to-pattern code);
   given_values = each-instr code (λ body i. is.is_given_code i) all (to-given code);
   letters = t.letters;
@@ -345,8 +355,8 @@ passed : (code : Code) → Verified code → AllPass code
 passed code v b w = record {
   kind = of_each (λ b. is.is_kind_for (waits b.block.class) b.body.kind) (standing code) v.kinds b w;
   exports = of_all (λ e. is.has_name code e.0 && nat_lt e.1 b.body.slots) b.body.exports (λ e u. both (is.has_name code e.0) (nat_lt e.1 b.body.slots)
-    (of_each (λ e. is.has_name code e.0) b.body.exports (of_each (λ b. list_all (λ e. is.has_name code e.0) b.body.exports) (standing code) (named code v).1 b w) e u)
-    (of_each (λ e. nat_lt e.1 b.body.slots) b.body.exports (of_each (λ b. list_all (λ e. nat_lt e.1 b.body.slots) b.body.exports) (standing code) v.exports b w) e u));
+      (of_each (λ e. is.has_name code e.0) b.body.exports (of_each (λ b. list_all (λ e. is.has_name code e.0) b.body.exports) (standing code) (named code v).1 b w) e u)
+      (of_each (λ e. nat_lt e.1 b.body.slots) b.body.exports (of_each (λ b. list_all (λ e. nat_lt e.1 b.body.slots) b.body.exports) (standing code) v.exports b w) e u));
   distinct = of_each (λ b. is.are_distinct code.names b.body.exports) (standing code) v.distinct_exports b w;
   instructions = of_all (is_judged code b.number b.block.class) b.body.code (λ i u. from-fits code b i (fits code v b w i u));
   balanced = of_each (λ b. is_balanced 0 b.body.code) (standing code) v.stacks b w;

@@ -56,4 +56,5 @@ parents_end blocks i before whole w h = sym (ap (have_parents before) (drop-all 
     drop-all (b ∷ bs) (suc at) h = drop-all bs at (omega arith)
 
 pub ruleset program_laws = (one_body, not_one, first_block, no_first)
+
 pub ruleset parent_laws = (no_parents, first_parents, next_parent, no_parent, parents_end)

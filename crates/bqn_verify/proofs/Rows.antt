@@ -38,6 +38,7 @@ up-of bodies (suc up) k = ap (λ o. r.around_in o (λ parent. r.up_in (map row_o
     inner : ((parent : ℕ) → r.up_in (map row_of bodies) up parent ≡ slots_up bodies up parent) → (n parent : ℕ) → r.go_up (r.parent_if n parent) (λ parent. r.up_in (map row_of bodies) up parent) ≡ elim n [ zero ↦ None | suc n ↦ slots_up bodies up parent ]
     inner hyp zero parent = refl
     inner hyp (suc n) parent = hyp parent
+
     by : ((parent : ℕ) → r.up_in (map row_of bodies) up parent ≡ slots_up bodies up parent) → (o : Option Standing) → r.around_in (option_map row_of o) (λ parent. r.up_in (map row_of bodies) up parent) ≡ around o (λ parent. slots_up bodies up parent)
     by hyp None = refl
     by hyp (Some b) = inner hyp b.block_number b.block.parent

@@ -97,8 +97,5 @@ fn blocks_are_few(code: &Code) -> bool
 pub fn is_small(code: &Code) -> bool
     ensures { result ≡ has_few (code_of code.now) }
 {
-    constants_are_few(code)
-        && names_are_few(code)
-        && patterns_are_few(code)
-        && blocks_are_few(code)
+    constants_are_few(code) && names_are_few(code) && patterns_are_few(code) && blocks_are_few(code)
 }

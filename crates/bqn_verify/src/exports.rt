@@ -26,7 +26,9 @@ fn is_same_name(names: &[Name], a: u32, b: u32) -> bool
 fn is_among(names: &[Name], name: u32, exports: &[(u32, u16)]) -> bool
     ensures { result ≡ list_any (λ other. same_name (slice_get names.now name) (slice_get names.now other.0)) exports.now }
 {
-    exports.iter().any(|other| is_same_name(names, name, other.0))
+    exports
+        .iter()
+        .any(|other| is_same_name(names, name, other.0))
 }
 
 /// Whether the names of the exports differ in their spellings.

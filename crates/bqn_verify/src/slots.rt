@@ -20,7 +20,11 @@ pub struct Row {
 fn parent_if(block_number: usize, parent: u32) -> Option<u32>
     ensures { result ≡ parent_unless block_number parent }
 {
-    if block_number == 0 { None } else { Some(parent) }
+    if block_number == 0 {
+        None
+    } else {
+        Some(parent)
+    }
 }
 
 fn is_below(slot: u16, slots: Option<u16>) -> bool

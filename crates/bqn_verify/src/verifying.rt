@@ -29,7 +29,10 @@ fn begins_with_letter(name: &Name) -> bool
 fn names_begin_with_letters(code: &Code) -> bool
     ensures { result ≡ letters_first (code_of code.now) }
 {
-    code.names.list().iter().all(|name| begins_with_letter(name))
+    code.names
+        .list()
+        .iter()
+        .all(|name| begins_with_letter(name))
 }
 
 fn are_flat(patterns: &[PatternCode]) -> bool
