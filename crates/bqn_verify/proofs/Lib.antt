@@ -1,0 +1,11 @@
+pub mod Balance
+pub mod Rows
+pub mod Finding
+pub mod Nesting
+pub mod Leaves
+pub mod Named
+pub mod Programs
+pub mod Exported
+pub mod Bounds
+pub mod Booleans
+pub mod Passing
