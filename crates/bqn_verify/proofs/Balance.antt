@@ -1,6 +1,5 @@
 -- The heights of a code, and the rows of bodies.
-use Rattle.std.proofs.Common.{◌≡◌, ◌≤◌, ◌<◌, ◌+◌, ◌-◌, ℕ, zero, suc, Bool, true, false, ◌&&◌, nat_eq, nat_le, List, [], ◌∷◌, length, map, drop, get_or, slice_get, Option, Some, None, refl, sym, ◌∙◌, ap, arith, subst, drop-cons, add-one}
-use Rattle.std.proofs.lemmas.List.{drop_all}
+use Rattle.std.proofs.Common.{◌≡◌, ◌≤◌, ◌<◌, ◌+◌, ◌-◌, ℕ, zero, suc, Bool, true, false, ◌&&◌, nat_eq, nat_le, List, [], ◌∷◌, length, drop, get_or, refl, sym, ◌∙◌, ap, arith, drop-cons}
 use Rattle.std.proofs.lemmas.Bool.{le-leb, lt-leb}
 use Rattle.bqn_code.specs.declared.instr.Instr.{Instr}
 use Rattle.bqn_code.specs.Heights.{takes, gives, is_last, is_balanced, is_empty}

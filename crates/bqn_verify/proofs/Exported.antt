@@ -1,5 +1,5 @@
 -- Exports that differ, one after another.
-use Rattle.std.proofs.Common.{◌≡◌, ◌<◌, ◌+◌, ℕ, suc, Bool, true, false, not, ◌&&◌, List, [], ◌∷◌, length, drop, get_or, slice_get, refl, sym, ◌∙◌, ap, arith, drop-cons}
+use Rattle.std.proofs.Common.{◌≡◌, ◌<◌, ◌+◌, ℕ, suc, Bool, not, ◌&&◌, List, length, drop, get_or, slice_get, ◌∙◌, ap, arith, drop-cons}
 use Rattle.std.specs.List.{list_any}
 use Rattle.bqn_code.specs.Conditions.{are_distinct}
 use Rattle.bqn_code.specs.Numbering.{same_name}

@@ -1,12 +1,13 @@
 -- The row of a body is found block by block.
 use Rattle.std.proofs.Common.{◌≡◌, ◌≤◌, ◌<◌, ◌+◌, ◌-◌, ℕ, zero, suc, List, [], ◌∷◌, ◌++◌, length, map, drop, get_or, slice_get, Option, Some, None, refl, sym, ◌∙◌, ap, subst, arith, drop-cons}
 use Rattle.std.specs.Option.{option_map}
-use Rattle.std.proofs.lemmas.Option.{slice_get-map, slice_get-get_or, slice_get_past}
-use Rattle.std.proofs.lemmas.List.{length-map}
+use Rattle.std.proofs.lemmas.Option.{slice_get-map, slice_get-get_or}
+use Rattle.std.proofs.lemmas.List.{length-map, drop_all}
 use Rattle.bqn_code.specs.declared.code.Body.{Body}
 use Rattle.bqn_code.specs.declared.code.Block.{Block}
 use Rattle.bqn_verify.specs.declared.slots.Row.{Row}
-use Rattle.bqn_verify.specs.Rows.{row_in, rows_of, parent_if, up_in, around_in, go_up}
+use Rattle.bqn_verify.specs.declared.slots.Start.{Start}
+use Rattle.bqn_verify.specs.Rows.{IsStart, bodies_before, row_in, rows_of, parent_if, up_in, around_in, go_up}
 
 behind : {A : Type 0} (xs ys : List A) (k : ℕ) → length xs ≤ k → slice_get (xs ++ ys) k ≡ slice_get ys (k - length xs)
 behind [] ys k h = ap (slice_get ys) (omega arith)
@@ -44,15 +45,30 @@ in_block n left many blocks block body around whole w h p m lt b a =
     in ap (λ (o : Option ℕ). Some (record { slots = body.slots; around = o })) a ∙ (sym here ∙ w)
 
 pub no_block : (n left : ℕ) (blocks : List Block) (whole : Option Row) → slice_get (rows_of n (drop n blocks)) left ≡ whole → length blocks ≤ n → None ≡ whole
-no_block n left blocks whole w h = sym (ap (λ bs. slice_get (rows_of n bs) left) (drop-all blocks n h)) ∙ w
-  where
-    drop-all : (bs : List Block) (at : ℕ) → length bs ≤ at → drop at bs ≡ []
-    drop-all [] zero h = refl
-    drop-all [] (suc at) h = refl
-    drop-all (b ∷ bs) zero h = absurd (omega arith)
-    drop-all (b ∷ bs) (suc at) h = drop-all bs at (omega arith)
+no_block n left blocks whole w h = sym (ap (λ bs. slice_get (rows_of n bs) left) (drop_all n blocks h)) ∙ w
 
 pub ruleset finds = (past_block, in_block, no_block)
+
+from-block : (n m k : ℕ) (blocks : List Block) → bodies_before n blocks ≤ k → slice_get (rows_of (m + n) (drop n blocks)) (k - bodies_before n blocks) ≡ slice_get (rows_of m blocks) k
+from-block zero m k blocks h = let e : m + 0 ≡ m = omega arith in let f : k - 0 ≡ k = omega arith in ap (λ (j : ℕ). slice_get (rows_of j blocks) (k - 0)) e ∙ ap (slice_get (rows_of m blocks)) f
+from-block (suc n) m k [] h = refl
+from-block (suc n) m k (b ∷ bs) h =
+    let len : length (map (row_in m b.parent) b.bodies) ≡ length b.bodies = length-map b.bodies (row_in m b.parent) in
+    let e : m + suc n ≡ suc m + n = omega arith in
+    let f : k - (length b.bodies + bodies_before n bs) ≡ (k - length b.bodies) - bodies_before n bs = omega arith in
+    ap (λ (j : ℕ). slice_get (rows_of j (drop n bs)) (k - (length b.bodies + bodies_before n bs))) e
+    ∙ (ap (slice_get (rows_of (suc m + n) (drop n bs))) f
+    ∙ (from-block n (suc m) (k - length b.bodies) bs (omega arith)
+    ∙ (ap (λ (j : ℕ). slice_get (rows_of (suc m) bs) (k - j)) (sym len)
+    ∙ sym (behind (map (row_in m b.parent) b.bodies) (rows_of (suc m) bs) k (omega arith)))))
+
+pub from_start : (blocks : List Block) (start : Start) (number : ℕ) → IsStart blocks start → start.first ≤ number
+    → slice_get (rows_of start.block (drop start.block blocks)) (number - start.first) ≡ slice_get (rows_of 0 blocks) number
+from_start blocks start number is le =
+    let e : start.block ≡ 0 + start.block = omega arith in
+    ap (λ (j : ℕ). slice_get (rows_of start.block (drop start.block blocks)) (number - j)) is
+    ∙ (ap (λ (n : ℕ). slice_get (rows_of n (drop start.block blocks)) (number - bodies_before start.block blocks)) e
+    ∙ from-block start.block 0 number blocks (omega arith))
 
 pub next_up : (rows : List Row) (up k parent : ℕ) (row : Row) (whole : Option ℕ) → up_in rows up k ≡ whole → 0 < up → Some row ≡ slice_get rows k → row.around ≡ Some parent → up_in rows (up - 1) parent ≡ whole
 next_up rows zero k parent row whole w h r a = absurd (omega arith)

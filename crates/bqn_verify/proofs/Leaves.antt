@@ -1,10 +1,10 @@
 -- Counts of a code and of its patterns.
-use Rattle.std.proofs.Common.{◌≡◌, ℕ, suc, Bool, List, [], ◌∷◌, length, map, refl, ap}
+use Rattle.std.proofs.Common.{◌≡◌, suc, Bool, List, [], ◌∷◌, length, map, refl, ap}
 use Rattle.std.specs.List.{list_all}
 use Rattle.std.proofs.lemmas.List.{length-map}
 use Rattle.std.proofs.lemmas.List.Folds.{list_all-map}
 use Rattle.bqn_code.specs.declared.pattern.PatternCode.{PatternCode}
-use Rattle.bqn_code.specs.Plain.{Pattern, Patterns, patterns, parts, pattern_of}
+use Rattle.bqn_code.specs.Plain.{Pattern, patterns, parts, pattern_of}
 
 pub parts-of : (all : List PatternCode) → parts (patterns (map pattern_of all)) ≡ length all
 parts-of [] = refl

@@ -1,6 +1,7 @@
 pub mod Balance
 pub mod Rows
 pub mod Finding
+pub mod Starting
 pub mod Nesting
 pub mod Leaves
 pub mod Named

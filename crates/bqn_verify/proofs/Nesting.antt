@@ -1,5 +1,5 @@
 -- How deep lists of patterns are.
-use Rattle.std.proofs.Common.{◌≡◌, ◌≤◌, ◌<◌, ◌-◌, ℕ, zero, suc, max, Bool, true, false, ◌&&◌, nat_le, refl, sym, ◌∙◌, ap, arith}
+use Rattle.std.proofs.Common.{◌≡◌, ◌≤◌, ◌<◌, ◌-◌, ℕ, zero, suc, max, Bool, true, false, ◌&&◌, nat_le, refl, sym, ◌∙◌, arith}
 use Rattle.std.proofs.lemmas.Bool.{le-leb, lt-leb, leb-true, leb-false}
 use Rattle.bqn_code.specs.Plain.{Pattern, Patterns, and_patterns, ListPattern}
 use Rattle.bqn_code.specs.Conditions.{nesting, all_nesting}

@@ -1,5 +1,5 @@
 -- The one test holds exactly of verified code.
-use Rattle.std.proofs.Common.{◌≡◌, ◌+◌, ℕ, suc, Bool, true, false, ◌&&◌, nat_eq, nat_lt, List, [], ◌∷◌, ◌++◌, length, slice_get, Option, Some, None, refl, sym, ◌∙◌, ap}
+use Rattle.std.proofs.Common.{◌≡◌, ◌+◌, ℕ, suc, Bool, true, false, ◌&&◌, nat_eq, nat_lt, List, [], ◌∷◌, length, slice_get, Option, Some, None, refl, sym, ◌∙◌, ap}
 use Rattle.std.specs.List.{list_all}
 use Rattle.std.proofs.lemmas.List.Folds.{list_all-append}
 use Rattle.bqn_syntax.specs.grammar.Classes.{waits}
@@ -7,12 +7,12 @@ use Rattle.bqn_code.specs.declared.instr.Instr.{Instr}
 use Rattle.bqn_code.specs.declared.instr.Instr.TheVariants as instr
 use Rattle.bqn_code.specs.declared.code.Body.{Body}
 use Rattle.bqn_code.specs.declared.code.Block.{Block}
-use Rattle.bqn_code.specs.Plain.{Pattern, Patterns, Skip, Define, Change, ListPattern, Literal, no_patterns, and_patterns, Code}
+use Rattle.bqn_code.specs.Plain.{Pattern, Patterns, Define, Change, ListPattern, Literal, no_patterns, and_patterns, Code}
 use Rattle.bqn_code.specs.Heights.{is_balanced}
 use Rattle.bqn_code.specs.Standing.{Standing, of_block, of_blocks, standing, every_body, every_instr}
 use Rattle.bqn_code.specs.Conditions as is
 use Rattle.bqn_code.specs.Verified.{Verified}
-use Rattle.bqn_verify.specs.Judged.{leaf_has_slot_up, leaf_is_there, stores, names_block, is_judged, exports_are_judged, body_is_judged, bodies_are_judged, all_are_judged, is_small, parents_in, program_in, blocks_are_judged, is_verified}
+use Rattle.bqn_verify.specs.Judged.{leaf_has_slot_up, leaf_is_there, stores, is_judged, body_is_judged, bodies_are_judged, all_are_judged, is_small, parents_in, program_in, blocks_are_judged, is_verified}
 use Rattle.bqn_verify.proofs.Booleans.{both, left, right, Within, of_each, of_all}
 
 -- ---- patterns

@@ -1,14 +1,16 @@
 //! Whether an instruction has what it names.
 
 ghost use Rattle.std.specs.Prelude.{◌≡◌, slice_get};
+ghost use Rattle.std.specs.List.{All};
 ghost use Rattle.bqn_syntax.specs.grammar.Classes.{waits as waits_for};
 ghost use Rattle.bqn_code.specs.Conditions.{is_modifier as modifier, is_modifier2 as modifier2, leaves, is_no_literal, pattern_passes};
 ghost use Rattle.bqn_code.specs.Plain.{code_of};
 ghost use Rattle.bqn_verify.specs.Judged.{is_judged as judged, names_block as block_named, stores as stored};
+ghost use Rattle.bqn_verify.specs.Rows.{IsStart};
 
 use crate::patterns::{has_no_literal, leaves_have_slots};
 use crate::program::is_immediate;
-use crate::slots::has_slot;
+use crate::slots::{Start, has_slot};
 use bqn_code::{Code, Instr};
 use bqn_syntax::Class;
 
@@ -56,12 +58,13 @@ fn names_block(code: &Code, number: u64, block: u16, immediate: bool) -> bool
 
 /// Whether the pattern is there, and the body with this number has its slots.
 #[tactic(auto, using(crate::proofs::Named::named_laws))]
-fn stores(code: &Code, number: u64, k: u32) -> bool
+fn stores(code: &Code, starts: &[Start], number: u64, k: u32) -> bool
+    requires starts { All (IsStart (code_of code.now).blocks) starts.now }
     ensures { result ≡ stored (code_of code.now) number k }
 {
     match code.patterns.list().get(k as usize) {
         None => false,
-        Some(p) => leaves_have_slots(code, number, p),
+        Some(p) => leaves_have_slots(code, starts, number, p),
     }
 }
 
@@ -77,7 +80,8 @@ fn binds_no_literal(code: &Code, k: u32) -> bool
 }
 
 /// Whether an instruction has what it names, in a body with this number of a block of this class.
-pub fn is_judged(code: &Code, number: u64, class: Class, i: Instr) -> bool
+pub fn is_judged(code: &Code, starts: &[Start], number: u64, class: Class, i: Instr) -> bool
+    requires starts { All (IsStart (code_of code.now).blocks) starts.now }
     ensures { result ≡ judged (code_of code.now) number class i }
 {
     match i {
@@ -85,12 +89,12 @@ pub fn is_judged(code: &Code, number: u64, class: Class, i: Instr) -> bool
         Instr::Given(k) => k < 70,
         Instr::Block(b) => names_block(code, number, b, false),
         Instr::Run(b) => names_block(code, number, b, true),
-        Instr::Load { up, slot } => has_slot(code, number, up, slot),
-        Instr::Define { slot } => has_slot(code, number, 0, slot),
-        Instr::Change { up, slot } => has_slot(code, number, up, slot),
+        Instr::Load { up, slot } => has_slot(code, starts, number, up, slot),
+        Instr::Define { slot } => has_slot(code, starts, number, 0, slot),
+        Instr::Change { up, slot } => has_slot(code, starts, number, up, slot),
         Instr::Field(k) => (k as usize) < code.names.list().len(),
-        Instr::Bind(k) => stores(code, number, k) && binds_no_literal(code, k),
-        Instr::Match(k) => stores(code, number, k),
+        Instr::Bind(k) => stores(code, starts, number, k) && binds_no_literal(code, k),
+        Instr::Match(k) => stores(code, starts, number, k),
         Instr::Left | Instr::Right | Instr::Own => waits(class),
         Instr::LeftOperand | Instr::Modifier => is_modifier(class),
         Instr::RightOperand => is_modifier2(class),

@@ -1,12 +1,14 @@
 //! What is asked of patterns.
 
 ghost use Rattle.std.specs.Prelude.{◌≡◌, map, nat_le};
+ghost use Rattle.std.specs.List.{All};
 ghost use Rattle.bqn_code.specs.Conditions.{all_leaves, all_lists_are_few, all_nesting, is_no_literal, leaves, lists_are_few as has_few, nesting};
 ghost use Rattle.bqn_code.specs.Plain.{code_of, pattern_of, patterns};
 ghost use Rattle.bqn_verify.specs.Judged.{leaf_has_slot_up, leaf_is_there};
+ghost use Rattle.bqn_verify.specs.Rows.{IsStart};
 
 use crate::counts::is_few;
-use crate::slots::has_slot;
+use crate::slots::{Start, has_slot};
 use bqn_code::{Code, PatternCode};
 
 /// Whether at most so many lists stand in one another. It goes no deeper than that.
@@ -73,24 +75,26 @@ fn all_leaves_are_there(code: &Code, all: &[PatternCode]) -> bool
 /// Whether the slots of the leaves are there, for a body with this number.
 #[cycle(slots)]
 #[tactic(auto, using(bqn_code::specs::PatternEquations::pattern_equations))]
-pub fn leaves_have_slots(code: &Code, number: u64, p: &PatternCode) -> bool
+pub fn leaves_have_slots(code: &Code, starts: &[Start], number: u64, p: &PatternCode) -> bool
+    requires starts { All (IsStart (code_of code.now).blocks) starts.now }
     ensures { result ≡ leaves (leaf_has_slot_up (code_of code.now) number) (pattern_of p.now) }
 {
     match p {
         PatternCode::Skip | PatternCode::Literal(_) => true,
-        PatternCode::Define { slot, .. } => has_slot(code, number, 0, *slot),
-        PatternCode::Change { up, slot, .. } => has_slot(code, number, *up, *slot),
-        PatternCode::List(all) => all_leaves_have_slots(code, number, all.list()),
+        PatternCode::Define { slot, .. } => has_slot(code, starts, number, 0, *slot),
+        PatternCode::Change { up, slot, .. } => has_slot(code, starts, number, *up, *slot),
+        PatternCode::List(all) => all_leaves_have_slots(code, starts, number, all.list()),
     }
 }
 
 #[cycle(slots)]
 #[tactic(auto, using(bqn_code::specs::PatternEquations::pattern_equations))]
-fn all_leaves_have_slots(code: &Code, number: u64, all: &[PatternCode]) -> bool
+fn all_leaves_have_slots(code: &Code, starts: &[Start], number: u64, all: &[PatternCode]) -> bool
+    requires starts { All (IsStart (code_of code.now).blocks) starts.now }
     ensures { result ≡ all_leaves (leaf_has_slot_up (code_of code.now) number) (patterns (map pattern_of all.now)) }
 {
     for p in all {
-        if !leaves_have_slots(code, number, p) {
+        if !leaves_have_slots(code, starts, number, p) {
             return false;
         }
     }
