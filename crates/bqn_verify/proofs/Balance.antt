@@ -1,6 +1,7 @@
 -- The heights of a code, and the rows of bodies.
-use Rattle.std.proofs.Common.{◌≡◌, ◌≤◌, ◌<◌, ◌+◌, ◌-◌, ℕ, zero, suc, Bool, true, false, ◌&&◌, nat_eq, nat_le, List, [], ◌∷◌, length, drop, get_or, refl, sym, ◌∙◌, ap, arith, drop-cons}
+use Rattle.std.proofs.Common.{◌≡◌, ◌≤◌, ◌<◌, ◌+◌, ◌-◌, ℕ, suc, Bool, true, false, ◌&&◌, nat_eq, nat_le, List, [], length, drop, get_or, sym, ◌∙◌, ap, arith, drop-cons}
 use Rattle.std.proofs.lemmas.Bool.{le-leb, lt-leb}
+use Rattle.std.proofs.lemmas.List.{drop_all}
 use Rattle.bqn_code.specs.declared.instr.Instr.{Instr}
 use Rattle.bqn_code.specs.Heights.{takes, gives, is_last, is_balanced, is_empty}
 
@@ -21,13 +22,7 @@ pub too_low : (code : List Instr) (at height : ℕ) (i d : Instr) (whole : Bool)
 too_low code at height i d whole w lt p l h = sym (w ∙ (at-front code at height i d lt p ∙ (ap (λ b. elim b [ true ↦ nat_eq height (takes i) && is_empty (drop (at + 1) code) | false ↦ nat_le (takes i) height && is_balanced (height - takes i + gives i) (drop (at + 1) code) ]) l
     ∙ ap (λ b. b && is_balanced (height - takes i + gives i) (drop (at + 1) code)) (lt-leb (takes i) height h))))
 
-drop-all : (code : List Instr) (at : ℕ) → length code ≤ at → drop at code ≡ []
-drop-all [] zero h = refl
-drop-all [] (suc at) h = refl
-drop-all (i ∷ code) zero h = absurd (omega arith)
-drop-all (i ∷ code) (suc at) h = drop-all code at (omega arith)
-
 pub at_end : (code : List Instr) (at height : ℕ) (whole : Bool) → whole ≡ is_balanced height (drop at code) → length code ≤ at → false ≡ whole
-at_end code at height whole w le = let e : drop at code ≡ [] = drop-all code at le in sym (w ∙ ap (is_balanced height) e)
+at_end code at height whole w le = let e : drop at code ≡ [] = drop_all at code le in sym (w ∙ ap (is_balanced height) e)
 
 pub ruleset balances = (goes_on, too_low, at_end)

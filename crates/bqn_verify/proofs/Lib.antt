@@ -7,6 +7,7 @@ pub mod Leaves
 pub mod Named
 pub mod Programs
 pub mod Exported
+pub mod Marking
 pub mod Bounds
 pub mod Booleans
 pub mod Passing

@@ -1,3 +1,4 @@
 pub mod Judged
+pub mod Marks
 pub mod Rows
 pub mod Verifies

@@ -7,11 +7,12 @@ ghost use Rattle.bqn_code.specs.Numbering.{same_name};
 ghost use Rattle.bqn_code.specs.Plain.{code_of};
 ghost use Rattle.bqn_verify.specs.Judged.{exports_are_judged as judged};
 
+use crate::marks::are_many_distinct;
 use bqn_base::Name;
 use bqn_code::{Body, Code};
 
 /// Whether these are the numbers of names with one spelling.
-fn is_same_name(names: &[Name], a: u32, b: u32) -> bool
+pub fn is_same_name(names: &[Name], a: u32, b: u32) -> bool
     ensures { result ≡ same_name (slice_get names.now a) (slice_get names.now b) }
 {
     let Some(a) = names.get(a as usize) else {
@@ -31,9 +32,9 @@ fn is_among(names: &[Name], name: u32, exports: &[(u32, u16)]) -> bool
         .any(|other| is_same_name(names, name, other.0))
 }
 
-/// Whether the names of the exports differ in their spellings.
+/// Whether the names of the exports differ in their spellings, each compared with each.
 #[tactic(auto, using(crate::proofs::Exported::distinct_laws))]
-fn are_distinct(names: &[Name], exports: &[(u32, u16)]) -> bool
+fn are_few_distinct(names: &[Name], exports: &[(u32, u16)]) -> bool
     ensures { result ≡ distinct names.now exports.now }
 {
     for i in 0..exports.len() {
@@ -43,6 +44,17 @@ fn are_distinct(names: &[Name], exports: &[(u32, u16)]) -> bool
         }
     }
     true
+}
+
+/// Whether the names of the exports differ in their spellings.
+fn are_distinct(names: &[Name], exports: &[(u32, u16)]) -> bool
+    ensures { result ≡ distinct names.now exports.now }
+{
+    if exports.len() > 64 && exports.len() <= 65535 {
+        are_many_distinct(names, exports)
+    } else {
+        are_few_distinct(names, exports)
+    }
 }
 
 fn are_there(code: &Code, slots: u16, exports: &[(u32, u16)]) -> bool

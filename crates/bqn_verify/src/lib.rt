@@ -7,6 +7,7 @@ mod counts;
 mod exports;
 mod heights;
 mod instructions;
+mod marks;
 mod patterns;
 mod program;
 mod slots;
