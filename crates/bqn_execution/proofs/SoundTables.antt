@@ -21,7 +21,7 @@ use Rattle.bqn_execution.proofs.Sure.{no, none_some, some_same, and_left, and_ri
 
 -- ---- lists
 
-and_both : (a b : Bool) → IsTrue a → IsTrue b → IsTrue (a && b)
+pub and_both : (a b : Bool) → IsTrue a → IsTrue b → IsTrue (a && b)
 and_both true b h k = k
 and_both false b h k = h
 
@@ -46,30 +46,30 @@ all_joined test [] new h k = k
 all_joined test (x ∷ old) [] h k = h
 all_joined test (x ∷ old) (y ∷ new) h k = and_both (test y) _ (and_left (test y) _ k) (all_append test old new (and_right (test x) _ h) (and_right (test y) _ k))
 
-within : {A : Type 0} (xs : List A) (k : ℕ) → k < length xs → IsTrue (is_some (slice_get xs k))
+pub within : {A : Type 0} (xs : List A) (k : ℕ) → k < length xs → IsTrue (is_some (slice_get xs k))
 within [] k h = absurd (omega arith)
 within (x ∷ xs) zero h = refl
 within (x ∷ xs) (suc k) h = within xs k (omega arith)
 
-at_same : {A : Type 0} (xs : List A) (x : A) (j k : ℕ) → j ≡ k → slice_get xs j ≡ Some x → slice_get xs k ≡ Some x
+pub at_same : {A : Type 0} (xs : List A) (x : A) (j k : ℕ) → j ≡ k → slice_get xs j ≡ Some x → slice_get xs k ≡ Some x
 at_same xs x j k q h = subst (λ n. slice_get xs n ≡ Some x) q h
 
-append_front : {A : Type 0} (xs ys : List A) (k : ℕ) (x : A) → slice_get xs k ≡ Some x → slice_get (xs ++ ys) k ≡ Some x
+pub append_front : {A : Type 0} (xs ys : List A) (k : ℕ) (x : A) → slice_get xs k ≡ Some x → slice_get (xs ++ ys) k ≡ Some x
 append_front [] ys k x h = absurd (none_some h)
 append_front (y ∷ xs) ys zero x h = h
 append_front (y ∷ xs) ys (suc k) x h = append_front xs ys k x h
 
-append_back : {A : Type 0} (xs ys : List A) (k : ℕ) (x : A) → slice_get ys k ≡ Some x → slice_get (xs ++ ys) (length xs + k) ≡ Some x
+pub append_back : {A : Type 0} (xs ys : List A) (k : ℕ) (x : A) → slice_get ys k ≡ Some x → slice_get (xs ++ ys) (length xs + k) ≡ Some x
 append_back [] ys k x h = at_same ys x k (0 + k) (omega arith) h
 append_back (y ∷ xs) ys k x h = at_same (y ∷ (xs ++ ys)) x (suc (length xs + k)) (suc (length xs) + k) (omega arith) (append_back xs ys k x h)
 
 -- what stood behind the first stays where it is
-joined_front : {A : Type 0} (old new : List A) (m b : ℕ) (x : A) → slice_get old (m + suc b) ≡ Some x → slice_get (joined old new) (m + suc b) ≡ Some x
+pub joined_front : {A : Type 0} (old new : List A) (m b : ℕ) (x : A) → slice_get old (m + suc b) ≡ Some x → slice_get (joined old new) (m + suc b) ≡ Some x
 joined_front [] new m b x h = absurd (none_some h)
 joined_front (o ∷ os) [] m b x h = h
 joined_front (o ∷ os) (y ∷ ys) m b x h = at_same (y ∷ (os ++ ys)) x (suc (m + b)) (m + suc b) (omega arith) (append_front os ys (m + b) x (at_same (o ∷ os) x (m + suc b) (suc (m + b)) (omega arith) h))
 
-joined_back : {A : Type 0} (old new : List A) (b : ℕ) (x : A) → slice_get new (suc b) ≡ Some x → slice_get (joined old new) ((length old - 1) + suc b) ≡ Some x
+pub joined_back : {A : Type 0} (old new : List A) (b : ℕ) (x : A) → slice_get new (suc b) ≡ Some x → slice_get (joined old new) ((length old - 1) + suc b) ≡ Some x
 joined_back [] new b x h = at_same new x (suc b) ((0 - 1) + suc b) (omega arith) h
 joined_back (o ∷ os) [] b x h = absurd (none_some h)
 joined_back (o ∷ os) (y ∷ ys) b x h = at_same (y ∷ (os ++ ys)) x (suc (length os + b)) ((suc (length os) - 1) + suc b) (omega arith) (append_back os ys b x h)
@@ -152,7 +152,7 @@ module _ (t : Table) (code : Code) where
   object body (instr.Match k) a b c d e = within code.patterns k (ltb-true k (length code.patterns) b)
   object body _ a b c d e = refl
 
-  instr_at : (test : Standing → Instr → Bool) → IsTrue (every_instr test code) → (k : ℕ) (body : Standing) → slice_get (standing code) k ≡ Some body → (j : ℕ) (i : Instr) → slice_get body.body.code j ≡ Some i → IsTrue (test body i)
+  pub instr_at : (test : Standing → Instr → Bool) → IsTrue (every_instr test code) → (k : ℕ) (body : Standing) → slice_get (standing code) k ≡ Some body → (j : ℕ) (i : Instr) → slice_get body.body.code j ≡ Some i → IsTrue (test body i)
   instr_at test h k body q j i r = all_at (test body) body.body.code j i (all_at (λ b. list_all (test b) b.body.code) (standing code) k body h q) r
 
   standing_sound : Verified code → IsTrue (list_all (λ b. is_sound next here b.body) (standing code))

@@ -6,3 +6,5 @@ pub mod Execution
 pub mod Programs
 pub mod Sureness
 pub mod Uniform
+pub mod Soundness
+pub mod Formed

@@ -1,6 +1,6 @@
 -- Code that is not stuck: each instruction finds its operands, and the constant, the pattern or the block that it names. A missing slot,
--- a block behind a value or an operand outside a modifier shows as a fault instead; that none of these arises in a run of verified code
--- is owed with the machine. This project's own.
+-- a block behind a value or an operand outside a modifier shows as a fault instead, and `Formed` says that none of these arises. This
+-- project's own.
 use Rattle.std.specs.Prelude.{ℕ}
 use Rattle.std.specs.List.{All}
 use Rattle.bqn_rows.specs.Plain.{Value}

@@ -4,4 +4,6 @@
 
 mod laws;
 
-pub use laws::{output_makes_no_difference, verified_code_is_never_stuck};
+pub use laws::{
+    output_makes_no_difference, verified_code_finds_what_it_names, verified_code_is_never_stuck,
+};
